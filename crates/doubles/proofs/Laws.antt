@@ -1,0 +1,11 @@
+pub mod Ratio
+pub mod Exact
+pub mod Stepped
+pub mod Raised
+pub mod Parts
+pub mod Answer
+pub mod Nearest
+pub mod Turns
+pub mod Finite
+pub mod Within
+pub mod Neighbours

@@ -1,0 +1,5 @@
+pub mod Power
+pub mod Steps
+pub mod Parts
+pub mod Answer
+pub mod Nearest
