@@ -1,0 +1,9 @@
+pub mod Some
+pub mod Entry
+pub mod Header
+pub mod Test
+pub mod Good
+pub mod Lay
+pub mod Laid
+pub mod Round
+pub mod Printed
