@@ -1,0 +1,7 @@
+pub mod Worked
+pub mod Overlay
+pub mod Laid
+pub mod Digits
+pub mod Decimal
+pub mod Signed
+pub mod Lengths

@@ -1,0 +1,47 @@
+-- `lines::named_line` meets its contract: its writers lay the parts of the line one after the other.
+use borrow.Author.Needs.{needs}
+use Prim.Native.Nat.{_≤_}
+use native.Mathlib.Omega.{arith}
+use lib.ListN.{length}
+use Rattle.lines.specs.Overlay.{top}
+use Rattle.lines.specs.Text.{letters}
+use Rattle.lines.specs.Lines.{namedLine}
+use Rattle.lines.proofs.Laws.Laid.{laid-more}
+use Rattle.lines.proofs.named_line.Statement.{statement}
+use Rattle.lines.proofs.named_line.Tie as tie
+
+put-word-requires : tie.Need-put-word-requires
+put-word-requires c κs = search needs
+
+put-number-requires : tie.Need-put-number-requires
+put-number-requires c κs = search needs
+
+slice-aggregate-put-word : tie.Need-slice-aggregate-put-word
+slice-aggregate-put-word c = search needs
+
+put-word-requires-2 : tie.Need-put-word-requires-2
+put-word-requires-2 c κs = search needs
+
+same-length : tie.Need-same-length
+same-length c = search needs
+
+returns : tie.Need-returns
+unfolding namedLine letters
+returns c =
+    let c₃ = c .before .before in
+    let c₂ = c₃ .before .before .before .before .before in
+    let c₁ = c₂ .before .before .before .before in
+    let k = c₁ .before .before .before .before in
+    let h : length (k .args .area .now) ≤ top = omega (arith, k .good .0 .0) in
+    laid-more h (laid-more h (c₁ .put-word .ensures) (c₂ .put-number .ensures)) (c₃ .put-word2 .ensures)
+
+pub named-line-spec : {M : Type 1} → statement M
+named-line-spec =
+    tie.close
+    (tie.spec
+    put-word-requires
+    put-number-requires
+    slice-aggregate-put-word
+    put-word-requires-2
+    same-length
+    returns)
