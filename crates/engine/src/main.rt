@@ -10,6 +10,13 @@ use forms::Move;
 use systems::Call;
 use tally::Tally;
 
+// How many forms, systems of ties, and streams of garbage there are.
+const FORMS: u64 = 240;
+
+const SYSTEMS: u64 = 168;
+
+const GARBAGE: u64 = 32;
+
 // What is compared.
 enum Test {
     Form(Move),
@@ -47,40 +54,40 @@ fn run(name: &[u8], test: Test, n: u64) -> Tally {
     t
 }
 
-// The methods of a form. 60 forms at 16 assignments, and the shape of the result: 60 · 17 = 1020. Slots 0 to 67 of 60 forms: 60 · 68 = 4080.
+// The methods of a form: 16 assignments of each form and the shape of what comes out, 240 · 17 = 4080; or its slots 0 to 67, 240 · 68 = 16320.
 fn run_forms() -> Tally {
-    run(b"phase_at", Test::Form(Move::PhaseAt), 60).plus(run(
-            b"add_phase",
-            Test::Form(Move::AddPhase),
-            60,
-        ))
-        .plus(run(b"turn_parity", Test::Form(Move::TurnParity), 60))
-        .plus(run(b"cross", Test::Form(Move::Cross), 60))
-        .plus(run(b"clear", Test::Form(Move::Clear), 60))
-        .plus(run(b"turn_replaced", Test::Form(Move::TurnReplaced), 60))
-        .plus(run(b"eliminate", Test::Form(Move::Eliminate), 60))
-        .plus(run(b"turn_at", Test::Reads(false), 60))
-        .plus(run(b"row_at", Test::Reads(true), 60))
+    Tally::none()
+        .plus(run(b"phase_at", Test::Form(Move::PhaseAt), FORMS))
+        .plus(run(b"add_phase", Test::Form(Move::AddPhase), FORMS))
+        .plus(run(b"turn_parity", Test::Form(Move::TurnParity), FORMS))
+        .plus(run(b"cross", Test::Form(Move::Cross), FORMS))
+        .plus(run(b"clear", Test::Form(Move::Clear), FORMS))
+        .plus(run(b"turn_replaced", Test::Form(Move::TurnReplaced), FORMS))
+        .plus(run(b"eliminate", Test::Form(Move::Eliminate), FORMS))
+        .plus(run(b"turn_at", Test::Reads(false), FORMS))
+        .plus(run(b"row_at", Test::Reads(true), FORMS))
 }
 
-// The methods of ties. 42 systems at 1024 assignments, and the shape of the result: 42 · 1025 = 43050. Slots 0 to 67 of 42 systems: 42 · 68 = 2856.
+// The methods of ties: 1024 assignments of each system and the shape of what comes out, 168 · 1025 = 172200; or the slots 0 to 67, 168 · 68 = 11424.
 fn run_ties() -> Tally {
-    run(b"hold_at", Test::Ties(Call::HoldAt), 42).plus(run(b"reduce", Test::Ties(Call::Reduce), 42))
-        .plus(run(b"insert", Test::Ties(Call::Insert), 42))
-        .plus(run(b"adjoin", Test::Ties(Call::Adjoin), 42))
-        .plus(run(b"mix", Test::Ties(Call::Mix), 42))
-        .plus(run(b"drop", Test::Ties(Call::Drop), 42))
-        .plus(run(b"use_up", Test::Ties(Call::UseUp), 42))
-        .plus(run(b"lead_index", Test::Searches(false), 42))
-        .plus(run(b"last_with", Test::Searches(true), 42))
+    Tally::none()
+        .plus(run(b"hold_at", Test::Ties(Call::HoldAt), SYSTEMS))
+        .plus(run(b"reduce", Test::Ties(Call::Reduce), SYSTEMS))
+        .plus(run(b"insert", Test::Ties(Call::Insert), SYSTEMS))
+        .plus(run(b"adjoin", Test::Ties(Call::Adjoin), SYSTEMS))
+        .plus(run(b"mix", Test::Ties(Call::Mix), SYSTEMS))
+        .plus(run(b"drop", Test::Ties(Call::Drop), SYSTEMS))
+        .plus(run(b"use_up", Test::Ties(Call::UseUp), SYSTEMS))
+        .plus(run(b"lead_index", Test::Searches(false), SYSTEMS))
+        .plus(run(b"last_with", Test::Searches(true), SYSTEMS))
 }
 
-// All, with nine calls on a form and nine on ties that no table has, 16 · 18 = 288 that returned; at the end, how many comparisons differed.
+// All, with nine calls on a form and nine on ties that no table has, 32 · 18 = 576 that returned; at the end, how many comparisons differed.
 fn main() {
     io::write_all(1, b"method agreed differed\n");
     let all = run_forms()
         .plus(run_ties())
-        .plus(run(b"garbage", Test::Garbage, 16));
+        .plus(run(b"garbage", Test::Garbage, GARBAGE));
     io::write_all(1, b"differences ");
     io::print_decimal(1, all.differed);
     io::write_all(1, b"\n");
