@@ -10,11 +10,13 @@ use forms::Move;
 use systems::Call;
 use tally::Tally;
 
-// How many forms, systems of ties, and streams of garbage there are.
+// How many forms there are: 20 of each of the 12 kinds of mask.
 const FORMS: u64 = 240;
 
+// How many systems of ties: two of each number of ties, place of the bits and kind of tie put in, 7 · 3 · 4.
 const SYSTEMS: u64 = 168;
 
+// How many forms and ties that no table has: 8 with each slot.
 const GARBAGE: u64 = 32;
 
 // What is compared.
@@ -82,7 +84,7 @@ fn run_ties() -> Tally {
         .plus(run(b"last_with", Test::Searches(true), SYSTEMS))
 }
 
-// All, with nine calls on a form and nine on ties that no table has, 32 · 18 = 576 that returned; at the end, how many comparisons differed.
+// All, and 18 calls each on forms and ties that no table has, 32 · 18 = 576 that returned; at the end, how many comparisons differed.
 fn main() {
     io::write_all(1, b"method agreed differed\n");
     let all = run_forms()
