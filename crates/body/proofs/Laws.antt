@@ -1,0 +1,4 @@
+pub mod Worked
+pub mod Signed
+pub mod Live
+pub mod Fault
