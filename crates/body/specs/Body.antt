@@ -6,6 +6,7 @@ use Prim.Native.Nat.{ℕ, zero, suc, _+_, _-_, _*_, _^_}
 use lib.Dec.{eqb, ltb, leb}
 use lib.IntN.{ℤ, pos, _-ℤ_}
 use lib.ListN.{length}
+use Rattle.exact.specs.declared.Quarter.{Quarter}
 use Rattle.form.specs.Form.{quarter}
 use Rattle.form.specs.declared.Form.{Form}
 use Rattle.ties.specs.declared.Ties.{Ties}
@@ -33,6 +34,9 @@ powerOf bs = signed16 (number 2 bs 2)
 -- "n bytes a"
 abbrev pub turnOf : List ℕ → ℕ → ℕ
 turnOf bs v = byteAt bs (4 + v)
+
+abbrev pub quarterOf : List ℕ → ℕ → Quarter
+quarterOf bs v = quarter (turnOf bs v)
 
 -- "n rows of 8 bytes b (bit u of row v is b_uv)"
 abbrev pub rowOf : ℕ → List ℕ → ℕ → ℕ
@@ -88,7 +92,7 @@ padded d n f = listed 64 (λ v. cond (ltb v n) (f v) d)
 
 unfoldable pub formOf : ℕ → List ℕ → Form
 formOf n bs =
-    record { phase = record { 0 = phaseOf bs }; turns = padded (quarter 0) n (λ v. quarter (turnOf bs v)); signs = padded 0 n (rowOf n bs) }
+    record { phase = record { 0 = phaseOf bs }; turns = padded (quarter 0) n (quarterOf bs); signs = padded 0 n (rowOf n bs) }
 
 -- "Unused tie places hold 0."
 unfoldable pub tiesOf : ℕ → List ℕ → Ties

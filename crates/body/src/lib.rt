@@ -6,9 +6,15 @@ ghost use lib.Dec.{leb};
 ghost use Rattle.form.specs.Form.{quarter};
 ghost use Rattle.table.specs.Number.{outside};
 ghost use Rattle.contents.specs.Contents.{some};
-ghost use Rattle.body.specs.Body.{signed16, powerOf, turnOf, rowOf, countOf, maskOf, sideOf};
+ghost use Rattle.body.specs.Body.{signed16, powerOf, turnOf, quarterOf, rowOf, countOf, maskOf, sideOf};
 ghost use Rattle.body.specs.Body.{sizeFault, headFault, turnFault, rowFault, tieFault, bodyFault};
+ghost use Rattle.body.specs.Body.{padded, formOf, tiesOf, tableOf};
+use exact::Eighth;
+use exact::Power;
 use exact::Quarter;
+use form::Form;
+use table::Table;
+use ties::Ties;
 
 // ---- The fields. Every function of these takes any bytes: a byte beyond the end counts as 0.
 // A number of 16 bits, read as two's complement.
@@ -186,4 +192,124 @@ pub fn fault(bs: &[u8], width: u8) -> bool
         return true;
     }
     ties_fault(bs, width)
+}
+
+// ---- The table, of a body that is not refused by 11.
+// The turn of slot v, as a count of quarter turns.
+fn quarter_of(bs: &[u8], v: u8) -> Quarter
+    ensures { λ r. ⌜ r ≡ quarterOf (now (bs .entry)) v ⌝ }
+{
+    Quarter(turn_of(bs, v))
+}
+
+// The turns of the live slots.
+fn turns_of(bs: &[u8], width: u8) -> [Quarter; 64]
+    requires { ⌜ width ≤ 64 ⌝ }
+    ensures { λ r. ⌜ r ≡ padded (quarter 0) width (quarterOf (now (bs .entry))) ⌝ }
+{
+    let mut turns = [Quarter(0); 64];
+    let mut v: u8 = 0;
+    while v < width {
+        let i = v as usize;
+        turns[i] = quarter_of(bs, v);
+        v += 1;
+    }
+    turns
+}
+
+// The rows of the live slots.
+fn signs_of(bs: &[u8], width: u8) -> [u64; 64]
+    requires { ⌜ width ≤ 64 ⌝ }
+    ensures { λ r. ⌜ r ≡ padded 0 width (rowOf width (now (bs .entry))) ⌝ }
+{
+    let mut signs = [0u64; 64];
+    let mut v: u8 = 0;
+    while v < width {
+        let i = v as usize;
+        signs[i] = row_of(bs, width, v);
+        v += 1;
+    }
+    signs
+}
+
+// The form.
+fn form_of(bs: &[u8], width: u8) -> Form
+    requires { ⌜ width ≤ 64 ⌝ }
+    ensures { λ r. ⌜ r ≡ formOf width (now (bs .entry)) ⌝ }
+{
+    Form {
+        phase: Eighth(fields::read_u8(bs, 1)),
+        turns: turns_of(bs, width),
+        signs: signs_of(bs, width),
+    }
+}
+
+// The masks of the ties.
+fn masks_of(bs: &[u8], width: u8) -> [u64; 64]
+    requires { ⌜ countOf width (now bs) ≤ 64 ⌝ }
+    ensures { λ r. ⌜ r ≡ padded 0 (countOf width (now (bs .entry))) (maskOf width (now (bs .entry))) ⌝ }
+{
+    let k = count_of(bs, width);
+    let mut masks = [0u64; 64];
+    let mut j: u8 = 0;
+    while j < k {
+        let i = j as usize;
+        masks[i] = mask_of(bs, width, j);
+        j += 1;
+    }
+    masks
+}
+
+// What each tie's sum is.
+fn sides_of(bs: &[u8], width: u8) -> [u8; 64]
+    requires { ⌜ countOf width (now bs) ≤ 64 ⌝ }
+    ensures { λ r. ⌜ r ≡ padded 0 (countOf width (now (bs .entry))) (sideOf width (now (bs .entry))) ⌝ }
+{
+    let k = count_of(bs, width);
+    let mut sides = [0u8; 64];
+    let mut j: u8 = 0;
+    while j < k {
+        let i = j as usize;
+        sides[i] = side_of(bs, width, j);
+        j += 1;
+    }
+    sides
+}
+
+// The ties.
+fn ties_of(bs: &[u8], width: u8) -> Ties
+    requires { ⌜ countOf width (now bs) ≤ 64 ⌝ }
+    ensures { λ r. ⌜ r ≡ tiesOf width (now (bs .entry)) ⌝ }
+{
+    Ties {
+        count: count_of(bs, width) as usize,
+        masks: masks_of(bs, width),
+        sides: sides_of(bs, width),
+    }
+}
+
+// The live slots: those below the width.
+fn live_of(width: u8) -> u64
+    requires { ⌜ width ≤ 64 ⌝ }
+    ensures { λ r. ⌜ r ≡ 2 ^ width - 1 ⌝ }
+{
+    if width < 64 {
+        (1u64 << width) - 1
+    } else {
+        0xFFFF_FFFF_FFFF_FFFF
+    }
+}
+
+// The table that the bytes state.
+fn table_of(bs: &[u8], width: u8) -> Table
+    requires { ⌜ bodyFault width (now bs) ≡ false ⌝ }
+    ensures { λ r. ⌜ r ≡ tableOf width (now (bs .entry)) ⌝ }
+{
+    Table {
+        zero: fields::read_u8(bs, 0) == 1,
+        power: Power(power_of(bs)),
+        live: live_of(width),
+        form: form_of(bs, width),
+        ties: ties_of(bs, width),
+    }
 }

@@ -2,11 +2,11 @@
 use mathlib.Core.Path.{_≡_, sym, ap, _∙_}
 use mathlib.Core.Bool.{false}
 use mathlib.Core.Logic.{⊎-elim}
-use Prim.Native.Nat.{ℕ, _+_, _-_, _*_, _/_, _^_, _≤_, _<_}
-use native.Mathlib.Nat.{div-eq-of-lt, le-div-iff-mul-le, le-trans, lt-of-lt-of-le, sub-zero}
+use Prim.Native.Nat.{ℕ, _+_, _-_, _*_, _/_, _%_, _^_, _≤_, _<_}
+use native.Mathlib.Nat.{div-eq-of-lt, le-div-iff-mul-le, lt-of-lt-of-le, sub-zero, mod-eq-of-lt}
 use native.Mathlib.Omega.{arith}
 use lib.Dec.{leb, ltb}
-use lib.Pow.{pow-pos, pow-mono, ones-lt}
+use lib.Pow.{pow-pos, pow-mono, pow-lt, ones-lt}
 use borrow.Author.Tests.{lt-ltb, le-ltb, le-leb, lt-leb}
 use Rattle.exact.proofs.Laws.Sum.{split}
 use Rattle.bits.specs.Mask.{bit}
@@ -39,3 +39,14 @@ module _ (n v : ℕ) where
 
   pub free-bit : n ≤ v → bit (2 ^ n - 1) v ≡ 0
   free-bit h = bit-above n (2 ^ n - 1) v (ones-lt n) h
+
+-- ---- the mask of the n lowest bits as it is made: one shifted, less one; or all of them
+pub one-shifted : (n : ℕ) → n < 64 → 1 * 2 ^ n % 18446744073709551616 ≡ 2 ^ n
+one-shifted n h =
+    let e : 1 * 2 ^ n ≡ 2 ^ n = omega arith in
+    ap (λ (m : ℕ). m % 18446744073709551616) e ∙ mod-eq-of-lt (pow-lt h)
+
+pub all-live : (n : ℕ) → n ≤ 64 → 64 ≤ n → 18446744073709551615 ≡ 2 ^ n - 1
+all-live n h l =
+    let q : 64 ≡ n = omega arith in
+    ap (λ (k : ℕ). 2 ^ k - 1) q

@@ -50,3 +50,7 @@ outside-high (negsuc n) h = sym (lt-leb 2000 n (omega (arith, ltb-false 1999 n h
 pub in-range : (z : ℤ) → outside z ≡ false → InRange z
 in-range (pos n) h = ltb-false 2000 n h
 in-range (negsuc n) h = omega (arith, leb-false 2000 n h)
+
+pub not-outside : (z : ℤ) → InRange z → outside z ≡ false
+not-outside (pos n) h = le-ltb 2000 n h
+not-outside (negsuc n) h = lt-leb 2000 n h
