@@ -5,3 +5,4 @@ pub mod Fault
 pub mod Padded
 pub mod Fine
 pub mod Parts
+pub mod Table
