@@ -6,3 +6,4 @@ pub mod Padded
 pub mod Fine
 pub mod Parts
 pub mod Table
+pub mod Read

@@ -9,12 +9,19 @@ ghost use Rattle.contents.specs.Contents.{some};
 ghost use Rattle.body.specs.Body.{signed16, powerOf, turnOf, quarterOf, rowOf, countOf, maskOf, sideOf};
 ghost use Rattle.body.specs.Body.{sizeFault, headFault, turnFault, rowFault, tieFault, bodyFault};
 ghost use Rattle.body.specs.Body.{padded, formOf, tiesOf, tableOf};
+ghost use Rattle.body.specs.Read.{Reads};
 use exact::Eighth;
 use exact::Power;
 use exact::Quarter;
 use form::Form;
 use table::Table;
 use ties::Ties;
+
+// What reading a body answers: a refusal's number or 0, and the table; where refused, the fresh one.
+pub struct Reading {
+    pub refusal: u8,
+    pub table: Table,
+}
 
 // ---- The fields. Every function of these takes any bytes: a byte beyond the end counts as 0.
 // A number of 16 bits, read as two's complement.
@@ -311,5 +318,28 @@ fn table_of(bs: &[u8], width: u8) -> Table
         live: live_of(width),
         form: form_of(bs, width),
         ties: ties_of(bs, width),
+    }
+}
+
+// A body of this width read: refused by 11, refused by 12 where its table is not normal, or the table.
+pub fn read(bs: &[u8], width: u8) -> Reading
+    ensures { λ r. ⌜ Reads width (now (bs .entry)) r ⌝ }
+{
+    if fault(bs, width) {
+        return Reading {
+            refusal: 11,
+            table: Table::fresh(),
+        };
+    }
+    let t = table_of(bs, width);
+    if !t.normal() {
+        return Reading {
+            refusal: 12,
+            table: Table::fresh(),
+        };
+    }
+    Reading {
+        refusal: 0,
+        table: t,
     }
 }
