@@ -1,3 +1,5 @@
 pub mod Slot
 pub mod Mask
 pub mod Packed
+pub mod Bytes
+pub mod Signed
