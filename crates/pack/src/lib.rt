@@ -9,7 +9,7 @@ ghost use Rattle.ties.specs.Ties.{maskAt, sideAt};
 ghost use Rattle.table.specs.Normal.{InRange};
 ghost use Rattle.pack.specs.Slot.{slotAt, packedMask};
 ghost use Rattle.pack.specs.Packed.{packedForm, packedTies, packedTable};
-ghost use Rattle.pack.specs.Body.{ofSigned16, headBytes, joined, tieBytes};
+ghost use Rattle.pack.specs.Body.{mark, ofSigned16, headBytes, joined, tieBytes, plainBytes, Fitting};
 use exact::Eighth;
 use exact::Power;
 use exact::Slot;
@@ -95,6 +95,13 @@ pub fn pack(mut t: Table) -> Table
     t
 }
 
+// The zero mark as a byte.
+fn mark_byte(zero: bool) -> u8
+    ensures { λ r. ⌜ r ≡ mark zero ⌝ }
+{
+    if zero { 1 } else { 0 }
+}
+
 // A power in 16 bits, two's complement.
 fn signed_bits(s: i32) -> u16
     requires { ⌜ InRange s ⌝ }
@@ -108,8 +115,7 @@ fn write_head(part: &mut [u8], zero: bool, c: Eighth, s: Power)
     requires { ⌜ InRange (s .0) × (4 ≤ length (now part)) ⌝ }
     ensures { λ _. ⌜ now (part .exit) ≡ front (now (part .entry)) (headBytes zero (c .0) (s .0)) ⌝ }
 {
-    let mark: u8 = if zero { 1 } else { 0 };
-    fields::write_u8(part, mark);
+    fields::write_u8(part, mark_byte(zero));
     fields::write_u8(&mut part[1..], c.0);
     fields::write_u16(&mut part[2..], signed_bits(s.0));
 }
@@ -162,4 +168,25 @@ fn write_ties(part: &mut [u8], t: Ties, k: usize)
         write_tie(&mut part[at..], a);
         j += 1;
     }
+}
+
+// The body of a table whose live slots are 0 to `n` − 1, at the front of the part.
+fn write_fields(part: &mut [u8], t: Table, n: usize)
+    requires { ⌜ Fitting (now part) n t ⌝ }
+    ensures { λ _. ⌜ now (part .exit) ≡ front (now (part .entry)) (plainBytes n t) ⌝ }
+{
+    let zero = t.zero;
+    let s = t.power;
+    let f = t.form;
+    let c = f.phase;
+    let ties = t.ties;
+    let k = ties.count;
+    write_head(part, zero, c, s);
+    write_turns(&mut part[4..], f, n);
+    let rows = 4 + n;
+    write_rows(&mut part[rows..], f, n);
+    let count = rows + 8 * n;
+    fields::write_u8(&mut part[count..], k as u8);
+    let rest = count + 1;
+    write_ties(&mut part[rest..], ties, k);
 }

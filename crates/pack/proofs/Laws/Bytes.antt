@@ -1,13 +1,15 @@
 -- Bytes of a body: how many they are, and fields of one length written one behind the other.
+use mathlib.Core.Bool.{Bool}
 use mathlib.Core.List.{List, [], _∷_, _++_}
 use mathlib.Core.Path.{_≡_, refl, sym, ap, ap₂, _∙_}
 use Prim.Native.Nat.{ℕ, zero, suc, _+_, _-_, _*_, _≤_, _<_}
 use native.Mathlib.Numerals.{add-one}
 use native.Mathlib.Omega.{arith}
+use lib.IntN.{ℤ}
 use lib.ListN.{length, take, drop, length-append}
 use Rattle.fields.specs.Bytes.{le, front}
 use Rattle.fields.proofs.Laws.Front.{length-le, lent-front, front-none}
-use Rattle.pack.specs.Body.{joined, tieBytes}
+use Rattle.pack.specs.Body.{joined, headBytes, tieBytes, fieldBytes, bodySize}
 
 pub length-joined : (w n : ℕ) (f : ℕ → List ℕ) → ((i : ℕ) → length (f i) ≡ w) → length (joined n f) ≡ w * n
 unfolding joined
@@ -39,3 +41,48 @@ lent-next w f h xs part ys i at e p q =
 
 pub lent-done : (xs part : List ℕ) (i n : ℕ) (f : ℕ → List ℕ) → i ≡ n → part ≡ front xs (joined i f) → part ≡ front xs (joined n f)
 lent-done xs part i n f e p = p ∙ ap (λ (k : ℕ). front xs (joined k f)) e
+
+-- ---- the fields of a body
+pub front-same : (xs ys bs cs : List ℕ) → ys ≡ front xs bs → bs ≡ cs → ys ≡ front xs cs
+front-same xs ys bs cs e f = e ∙ ap (front xs) f
+
+module _ (zeroed : Bool) (c : ℕ) (s : ℤ) (n : ℕ) (a b : ℕ → ℕ) (k : ℕ) where
+  -- the bytes up to each field
+  unfoldable pub toTurns : List ℕ
+  toTurns = headBytes zeroed c s
+
+  unfoldable pub toRows : List ℕ
+  toRows = toTurns ++ joined n (λ i. a i ∷ [])
+
+  unfoldable pub toCount : List ℕ
+  toCount = toRows ++ joined n (λ i. le 8 (b i))
+
+  unfoldable pub toTies : List ℕ
+  toTies = toCount ++ (k ∷ [])
+
+  pub length-turns : length toTurns ≡ 4
+  unfolding toTurns headBytes le
+  length-turns = refl
+
+  pub length-rows : length toRows ≡ 4 + n
+  unfolding toRows
+  length-rows = length-append toTurns (joined n (λ i. a i ∷ [])) ∙ omega (arith, length-turns, length-joined 1 n (λ i. a i ∷ []) (λ i. refl))
+
+  pub length-count : length toCount ≡ 4 + n + 8 * n
+  unfolding toCount
+  length-count = length-append toRows (joined n (λ i. le 8 (b i))) ∙ omega (arith, length-rows, length-joined 8 n (λ i. le 8 (b i)) (λ i. length-le 8 (b i)))
+
+  pub length-ties : length toTies ≡ 4 + n + 8 * n + 1
+  unfolding toTies
+  length-ties = length-append toCount (k ∷ []) ∙ omega (arith, length-count)
+
+  module _ (m r : ℕ → ℕ) where
+    pub fields-are : toTies ++ joined k (λ j. tieBytes (m j) (r j)) ≡ fieldBytes zeroed c s n a b k m r
+    unfolding toTies toCount toRows toTurns fieldBytes
+    fields-are = refl
+
+    pub length-fields : length (fieldBytes zeroed c s n a b k m r) ≡ bodySize n k
+    length-fields =
+        ap length (sym fields-are)
+        ∙ length-append toTies (joined k (λ j. tieBytes (m j) (r j)))
+        ∙ omega (arith, length-ties, length-joined 9 k (λ j. tieBytes (m j) (r j)) (λ j. length-tie (m j) (r j)))
