@@ -3,3 +3,5 @@ pub mod Mask
 pub mod Packed
 pub mod Bytes
 pub mod Signed
+pub mod Read
+pub mod Body
