@@ -6,10 +6,10 @@ ghost use lib.ListN.{length};
 ghost use Rattle.fields.specs.Bytes.{le, front};
 ghost use Rattle.form.specs.Form.{turnAt, rowAt};
 ghost use Rattle.ties.specs.Ties.{maskAt, sideAt};
-ghost use Rattle.table.specs.Normal.{InRange};
+ghost use Rattle.table.specs.Normal.{InRange, Normal};
 ghost use Rattle.pack.specs.Slot.{slotAt, packedMask};
 ghost use Rattle.pack.specs.Packed.{packedForm, packedTies, packedTable};
-ghost use Rattle.pack.specs.Body.{mark, ofSigned16, headBytes, joined, tieBytes, plainBytes, Fitting};
+ghost use Rattle.pack.specs.Body.{mark, ofSigned16, headBytes, joined, tieBytes, plainBytes, bodyBytes, Fitting};
 use exact::Eighth;
 use exact::Power;
 use exact::Slot;
@@ -189,4 +189,13 @@ fn write_fields(part: &mut [u8], t: Table, n: usize)
     fields::write_u8(&mut part[count..], k as u8);
     let rest = count + 1;
     write_ties(&mut part[rest..], ties, k);
+}
+
+// The body of a normal table at the front of the part: packed, then written slot by slot.
+fn write_body(part: &mut [u8], t: Table)
+    requires { ⌜ Normal t × (length (bodyBytes t) ≤ length (now part)) ⌝ }
+    ensures { λ _. ⌜ now (part .exit) ≡ front (now (part .entry)) (bodyBytes t) ⌝ }
+{
+    let n = bits::count(t.live);
+    write_fields(part, pack(t), n);
 }

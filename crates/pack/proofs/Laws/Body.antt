@@ -1,18 +1,19 @@
 -- The body of a table is that of the packed one, slot by slot; and how long it is.
 use mathlib.Core.Bool.{Bool}
 use mathlib.Core.List.{List, [], _∷_, _++_}
-use mathlib.Core.Path.{_≡_, refl, sym, ap, ap₂, _∙_}
+use mathlib.Core.Path.{_≡_, refl, sym, ap, ap₂, _∙_, subst}
 use Prim.Native.Nat.{ℕ, _^_, _≤_, _<_}
 use native.Mathlib.Omega.{arith}
 use lib.Count.{ones}
 use lib.IntN.{ℤ}
 use lib.ListN.{length}
-use Rattle.fields.specs.Bytes.{le}
+use Rattle.fields.specs.Bytes.{le, front}
 use Rattle.table.specs.declared.Table.{Table}
 use Rattle.table.specs.Entry.{turn, row, tie, side, ties}
+use Rattle.table.specs.Normal.{Normal}
 use Rattle.pack.specs.Slot.{slotAt, packedMask}
 use Rattle.pack.specs.Packed.{packedForm, packedTies, packedTable}
-use Rattle.pack.specs.Body.{joined, headBytes, tieBytes, fieldBytes, bodySize, plainBytes, bodyBytes}
+use Rattle.pack.specs.Body.{joined, headBytes, tieBytes, fieldBytes, bodySize, plainBytes, bodyBytes, Fitting}
 use Rattle.pack.proofs.Laws.Bytes.{joined-ext, length-fields}
 use Rattle.pack.proofs.Laws.Read.{ones-small, turn-at, row-at, mask-at, side-at}
 
@@ -39,3 +40,20 @@ body-plain t h e =
 pub length-body : (t : Table) → length (bodyBytes t) ≡ bodySize (ones (t .live)) (ties t)
 unfolding bodyBytes
 length-body t = length-fields (t .zero) (t .form .phase .0) (t .power .0) (ones (t .live)) _ _ (ties t) _ _
+
+-- ---- what the writer of the fields asks and leaves, of a normal table t whose packed one is p
+module _ (t p : Table) (n : ℕ) (N : Normal t) (en : n ≡ ones (t .live)) (ep : p ≡ packedTable t) where
+  packed-fits : (part : List ℕ) → length (bodyBytes t) ≤ length part → Fitting part (ones (t .live)) (packedTable t)
+  unfolding packedTable packedTies
+  packed-fits part l = record {
+    slots = ones-small (t .live) (N .live-range);
+    few = N .reduced .count-range;
+    range = N .power-range;
+    room = omega (arith, length-body t);
+  }
+
+  pub body-fitting : (part : List ℕ) → length (bodyBytes t) ≤ length part → Fitting part n p
+  body-fitting part l = subst (λ (k : ℕ). Fitting part k p) (sym en) (subst (Fitting part (ones (t .live))) (sym ep) (packed-fits part l))
+
+  pub body-written : (xs ys : List ℕ) → ys ≡ front xs (plainBytes n p) → ys ≡ front xs (bodyBytes t)
+  body-written xs ys e = e ∙ ap (front xs) (ap₂ plainBytes en ep ∙ body-plain t (N .live-range) (N .reduced .masks-are))
