@@ -5,3 +5,7 @@ pub mod Bytes
 pub mod Signed
 pub mod Read
 pub mod Body
+pub mod Sum
+pub mod First
+pub mod Normal
+pub mod Entry
