@@ -1,7 +1,6 @@
 -- A table's body as bytes.
 use mathlib.Core.Bool.{Bool, cond}
 use mathlib.Core.List.{List, [], _∷_, _++_}
-use mathlib.Core.Path.{_≡_}
 use Prim.Native.Nat.{ℕ, zero, suc, _+_, _-_, _*_, _≤_}
 use lib.Count.{ones}
 use lib.IntN.{ℤ, pos, negsuc}

@@ -1,7 +1,7 @@
 -- The body of a table is that of the packed one, slot by slot; and how long it is.
 use mathlib.Core.Bool.{Bool}
 use mathlib.Core.List.{List, [], _∷_, _++_}
-use mathlib.Core.Path.{_≡_, refl, sym, ap, ap₂, _∙_, subst}
+use mathlib.Core.Path.{_≡_, sym, ap, ap₂, _∙_, subst}
 use Prim.Native.Nat.{ℕ, _^_, _≤_, _<_}
 use native.Mathlib.Omega.{arith}
 use lib.Count.{ones}
@@ -9,11 +9,10 @@ use lib.IntN.{ℤ}
 use lib.ListN.{length}
 use Rattle.fields.specs.Bytes.{le, front}
 use Rattle.table.specs.declared.Table.{Table}
-use Rattle.table.specs.Entry.{turn, row, tie, side, ties}
+use Rattle.table.specs.Entry.{ties}
 use Rattle.table.specs.Normal.{Normal}
-use Rattle.pack.specs.Slot.{slotAt, packedMask}
 use Rattle.pack.specs.Packed.{packedForm, packedTies, packedTable}
-use Rattle.pack.specs.Body.{joined, headBytes, tieBytes, fieldBytes, bodySize, plainBytes, bodyBytes, Fitting}
+use Rattle.pack.specs.Body.{headBytes, tieBytes, fieldBytes, bodySize, plainBytes, bodyBytes, Fitting}
 use Rattle.pack.proofs.Laws.Bytes.{joined-ext, length-fields}
 use Rattle.pack.proofs.Laws.Read.{ones-small, turn-at, row-at, mask-at, side-at}
 

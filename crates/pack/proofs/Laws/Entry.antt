@@ -2,19 +2,18 @@
 use mathlib.Core.Bool.{Bool, false, cond}
 use mathlib.Core.Logic.{⊎-elim}
 use mathlib.Core.Path.{_≡_, refl, sym, ap, ap₂, _∙_}
-use Prim.Native.Nat.{ℕ, zero, suc, _+_, _-_, _*_, _%_, _^_, _≤_, _<_}
+use Prim.Native.Nat.{ℕ, zero, suc, _+_, _-_, _*_, _%_, _≤_, _<_}
 use native.Mathlib.Omega.{arith}
 use lib.Count.{ones}
 use lib.Dec.{eqb}
-use lib.ListN.{length}
 use Rattle.exact.specs.Amount.{none, some}
 use Rattle.exact.proofs.Laws.Sum.{split}
 use Rattle.bits.specs.Mask.{bit, parity}
 use Rattle.bits.proofs.Laws.Bit.{bit-lt, bit-above, bit-inside}
 use Rattle.form.specs.Form.{phase, phaseAt, turnAt, signAt}
-use Rattle.ties.specs.Ties.{maskAt, sideAt, held}
+use Rattle.ties.specs.Ties.{maskAt, held}
 use Rattle.table.specs.declared.Table.{Table}
-use Rattle.table.specs.Entry.{ties, turnsAt, entry}
+use Rattle.table.specs.Entry.{ties, entry}
 use Rattle.table.specs.Normal.{Normal, Assigns}
 use Rattle.table.proofs.Laws.Entry.{turns-form}
 use Rattle.pack.specs.Slot.{rank, slotAt}

@@ -11,7 +11,7 @@ use Rattle.exact.proofs.Laws.Sum.{total-ext, total-mul, total-first}
 use Rattle.bits.specs.Mask.{bit, pow}
 use Rattle.bits.proofs.Laws.Bit.{bit-lt, bit-zero, bit-half, bit-above, pow-low}
 use Rattle.pack.specs.Slot.{rank, slotAt, packedMask}
-use Rattle.pack.proofs.Laws.Slot.{rank-le, rank-none, rank-more, slot-rank, ones-rank}
+use Rattle.pack.proofs.Laws.Slot.{rank-le, slot-rank, ones-rank}
 
 -- ---- a number by its digits
 pub digits : ℕ → (ℕ → ℕ) → ℕ

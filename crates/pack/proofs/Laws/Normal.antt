@@ -1,6 +1,6 @@
 -- A packed table is normal: its leads are the ranks of the leads, and every clause is that of the live slots.
-use mathlib.Core.Logic.{_≢_, ⊎-elim}
-use mathlib.Core.Path.{_≡_, refl, sym, ap, ap₂, _∙_, subst}
+use mathlib.Core.Logic.{⊎-elim}
+use mathlib.Core.Path.{_≡_, refl, sym, ap, _∙_, subst}
 use Prim.Native.Nat.{ℕ, _-_, _^_, _≤_, _<_}
 use native.Mathlib.Nat.{lt-of-lt-of-le}
 use native.Mathlib.Omega.{arith}
@@ -8,14 +8,14 @@ use lib.Count.{ones, trailingZeros}
 use lib.Pow.{pow-mono, pow-pos}
 use Rattle.exact.proofs.Laws.Sum.{split}
 use Rattle.bits.specs.Mask.{bit}
-use Rattle.bits.proofs.Laws.Bit.{bit-lt, bit-above, bit-of-zero, bit-one, bit-full}
+use Rattle.bits.proofs.Laws.Bit.{bit-one, bit-full}
 use Rattle.bits.proofs.Laws.Lowest.{lowest-one}
 use Rattle.form.specs.Form.{turnAt, rowAt, signAt, Proper}
 use Rattle.form.proofs.Laws.Beyond.{turn-none, row-none}
-use Rattle.ties.specs.Ties.{maskAt, sideAt, leadAt, Reduced}
+use Rattle.ties.specs.Ties.{maskAt, leadAt, Reduced}
 use Rattle.ties.proofs.Laws.Lead.{lead-lt, lead-bit, lead-below}
 use Rattle.table.specs.declared.Table.{Table}
-use Rattle.table.specs.Entry.{turn, row, ties}
+use Rattle.table.specs.Entry.{ties}
 use Rattle.table.specs.Normal.{Normal}
 use Rattle.pack.specs.Slot.{rank, slotAt, packedMask}
 use Rattle.pack.specs.Packed.{packedForm, packedTies, packedTable}

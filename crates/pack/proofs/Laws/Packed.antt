@@ -1,6 +1,6 @@
 -- Packed forms, ties and tables: what stands where, and the loops that make them, as lists changed element by element.
-use mathlib.Core.List.{List, [], _∷_}
-use mathlib.Core.Path.{_≡_, refl, sym, ap, ap₂, _∙_, subst}
+use mathlib.Core.List.{List}
+use mathlib.Core.Path.{_≡_, refl, sym, ap, _∙_, subst}
 use Prim.Native.Nat.{ℕ, zero, suc, _+_, _-_, _*_, _^_, _≤_, _<_}
 use native.Mathlib.Nat.{pow-suc}
 use native.Mathlib.Omega.{arith}
@@ -10,17 +10,14 @@ use lib.ListN.{length, getD, set, List·getD-eq-default}
 use lib.Seq.{ext-getD}
 use Rattle.exact.specs.Sum.{total}
 use Rattle.exact.proofs.Laws.Sum.{total-ext}
-use Rattle.exact.specs.declared.Eighth.{Eighth}
-use Rattle.exact.specs.declared.Quarter.{Quarter}
-use Rattle.bits.specs.Mask.{bit}
 use Rattle.form.specs.declared.Form.{Form}
 use Rattle.form.specs.Form.{quarter, turnAt, rowAt}
 use Rattle.form.specs.Upto.{Upto}
-use Rattle.form.specs.Move.{Changed, onTurn}
+use Rattle.form.specs.Move.{Changed}
 use Rattle.form.proofs.Laws.Changed.{changed-unique}
 use Rattle.form.proofs.Laws.Upto.{upto-none, upto-more}
 use Rattle.ties.specs.declared.Ties.{Ties}
-use Rattle.ties.specs.Ties.{maskAt, sideAt}
+use Rattle.ties.specs.Ties.{maskAt}
 use Rattle.table.specs.declared.Table.{Table}
 use Rattle.pack.specs.Slot.{slotAt, packedMask}
 use Rattle.pack.specs.Packed.{listed, packedForm, packedTies, packedTable}

@@ -3,19 +3,19 @@ use mathlib.Core.Logic.{⊎-elim}
 use mathlib.Core.Path.{_≡_, refl, sym, ap, _∙_}
 use Prim.Native.Nat.{ℕ, _-_, _*_, _^_, _≤_, _<_}
 use native.Mathlib.Omega.{arith}
-use lib.Count.{ones, ones-le}
-use lib.ListN.{length, getD, List·getD-eq-default}
+use lib.Count.{ones}
+use lib.ListN.{length, List·getD-eq-default}
 use Rattle.exact.proofs.Laws.Sum.{split, total-zero}
 use Rattle.exact.specs.declared.Quarter.{Quarter}
 use Rattle.bits.specs.Mask.{bit}
-use Rattle.bits.proofs.Laws.Bit.{bit-of-zero, bit-above}
+use Rattle.bits.proofs.Laws.Bit.{bit-of-zero}
 use Rattle.form.specs.declared.Form.{Form}
 use Rattle.form.specs.Form.{quarter, turnAt, rowAt, signAt}
 use Rattle.form.proofs.Laws.Beyond.{turn-none, row-none}
 use Rattle.ties.specs.declared.Ties.{Ties}
 use Rattle.ties.specs.Ties.{maskAt, sideAt}
-use Rattle.pack.specs.Slot.{rank, slotAt, packedMask}
-use Rattle.pack.specs.Packed.{listed, packedForm, packedTies}
+use Rattle.pack.specs.Slot.{slotAt, packedMask}
+use Rattle.pack.specs.Packed.{packedForm, packedTies}
 use Rattle.pack.proofs.Laws.Slot.{rank-le, ones-rank, slot-none}
 use Rattle.pack.proofs.Laws.Mask.{packed-bit, packed-above}
 use Rattle.pack.proofs.Laws.Packed.{length-listed, listed-at, listed-beyond}

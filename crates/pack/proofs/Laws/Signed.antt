@@ -1,14 +1,12 @@
 -- A power in range in two's complement: 65,536 more is not negative, and its rest is the number of 16 bits.
 use mathlib.Core.Bool.{Bool, cond}
-use mathlib.Core.Path.{_≡_, refl, sym, ap, _∙_, subst}
+use mathlib.Core.Path.{_≡_, refl, sym, ap, subst}
 use Prim.Native.Nat.{ℕ, suc, _+_, _-_, _%_, _<_}
 use native.Mathlib.Omega.{arith}
 use borrow.Author.Tests.{le-ltb}
-use lib.Dec.{T}
-use lib.IntN.{ℤ, pos, negsuc, natAbs, _+ℤ_}
-use lib.Signed.{nonNeg}
+use lib.IntN.{ℤ, pos, negsuc, _+ℤ_}
 use mir.Syntax.{w32}
-use mir.Val.{SFits, Fits}
+use mir.Val.{SFits}
 use Rattle.table.specs.Normal.{InRange}
 use Rattle.pack.specs.Body.{ofSigned16}
 

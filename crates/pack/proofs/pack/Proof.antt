@@ -3,25 +3,16 @@ use Rattle.pack.proofs.Laws.Packed.{table-done}
 use borrow.Author.Needs.{needs}
 use Rattle.pack.proofs.pack.Statement.{statement}
 use Rattle.pack.proofs.pack.Tie as tie
-use Rattle.pack.proofs.pack.Reads as reads
-use Rattle.pack.proofs.pack.Lts as lts
-use Rattle.pack.proofs.pack_form.Reads as pack-form-reads
-use Rattle.pack.proofs.pack_ties.Reads as pack-ties-reads
-use Rattle.pack.proofs.packed_mask.Reads as packed-mask-reads
 
--- src/lib.rt:81:5
 packed-mask-requires : tie.Need-packed-mask-requires
 packed-mask-requires c κs = search needs
 
--- src/lib.rt:82:5
 pack-form-requires : tie.Need-pack-form-requires
 pack-form-requires c κs = search needs
 
--- src/lib.rt:83:5
 pack-ties-requires : tie.Need-pack-ties-requires
 pack-ties-requires c κs = search needs
 
--- src/lib.rt:75:1
 returns : tie.Need-returns
 returns c = table-done _ _ _ _ (search needs) (c .before .before .packed-mask .ensures) (c .before .pack-form .ensures) (c .pack-ties .ensures)
 

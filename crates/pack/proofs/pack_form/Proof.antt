@@ -1,5 +1,5 @@
 -- `pack_form` meets its contract: the slots below j are those of the packed form.
-use mathlib.Core.Path.{_≡_, refl, sym, ap, _∙_}
+use mathlib.Core.Path.{ap, _∙_}
 use Prim.Native.Nat.{ℕ, _≤_, _-_}
 use native.Mathlib.Omega.{arith}
 use borrow.Author.Needs.{needs}
@@ -11,12 +11,6 @@ use Rattle.pack.specs.Slot.{packedMask}
 use Rattle.pack.proofs.Laws.Packed.{turnPacked, rowPacked, form-done}
 use Rattle.pack.proofs.pack_form.Statement.{statement}
 use Rattle.pack.proofs.pack_form.Tie as tie
-use Rattle.pack.proofs.pack_form.Reads as reads
-use Rattle.pack.proofs.pack_form.Lts as lts
-use Rattle.form.proofs.Form.row_at.Reads as row-at-reads
-use Rattle.form.proofs.Form.turn_at.Reads as turn-at-reads
-use Rattle.pack.proofs.packed_mask.Reads as packed-mask-reads
-use Rattle.pack.proofs.slot_at.Reads as slot-at-reads
 
 abbrev Inv-loop : tie.InvT-loop
 Inv-loop f live r₀ j₀ r j = Changed (turnPacked live f) (rowPacked live f) j f r × (j ≤ 64)
@@ -24,47 +18,36 @@ Inv-loop f live r₀ j₀ r j = Changed (turnPacked live f) (rowPacked live f) j
 abbrev μ-loop : tie.MeasureT-loop
 μ-loop f live r₀ j₀ r j = 64 - j
 
--- src/lib.rt:50:5
 loop-holds : tie.Need-loop-holds Inv-loop μ-loop
 loop-holds c = (changed-none _ _ _, omega arith)
 
--- src/lib.rt:51:22
 slot-at-requires : tie.Need-slot-at-requires Inv-loop μ-loop
 slot-at-requires c κs = search needs
 
--- src/lib.rt:52:13
 row-at-requires : tie.Need-row-at-requires Inv-loop μ-loop
 row-at-requires c κs = search needs
 
--- src/lib.rt:53:22
 turn-at-requires : tie.Need-turn-at-requires Inv-loop μ-loop
 turn-at-requires c κs = search needs
 
--- src/lib.rt:53:9
 element-set-from-r : tie.Need-element-set-from-r Inv-loop μ-loop
 element-set-from-r c = search needs
 
--- src/lib.rt:54:22
 packed-mask-requires : tie.Need-packed-mask-requires Inv-loop μ-loop
 packed-mask-requires c κs = search needs
 
--- src/lib.rt:54:9
 mul-r : tie.Need-mul-r Inv-loop μ-loop
 mul-r c = search needs
 
--- src/lib.rt:54:9
 element-write-r : tie.Need-element-write-r Inv-loop μ-loop
 element-write-r c = search needs
 
--- src/lib.rt:55:9
 add-j : tie.Need-add-j Inv-loop μ-loop
 add-j c = search needs
 
--- src/lib.rt:50:5
 loop-less : tie.Need-loop-less Inv-loop μ-loop
 loop-less c = search needs
 
--- src/lib.rt:50:5
 loop-again : tie.Need-loop-again Inv-loop μ-loop
 loop-again c =
     let k = c .before .before .before in
@@ -77,7 +60,6 @@ loop-again c =
       omega arith,
     )
 
--- src/lib.rt:45:1
 returns : tie.Need-returns Inv-loop μ-loop
 returns c = form-done _ _ _ _ (search (length-parts, needs)) (search needs) (omega arith) (c .before .loop .inv .0)
 

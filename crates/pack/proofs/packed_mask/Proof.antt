@@ -1,6 +1,6 @@
 -- `packed_mask` meets its contract: the bits of the live slots below v are packed, i of them.
-use mathlib.Core.Path.{_≡_, refl, sym, ap, _∙_}
-use Prim.Native.Nat.{ℕ, _≤_, _+_, _-_, _*_, _^_}
+use mathlib.Core.Path.{_≡_, sym, ap, _∙_}
+use Prim.Native.Nat.{_≤_, _-_, _*_, _^_}
 use native.Mathlib.Omega.{arith}
 use borrow.Author.Needs.{needs}
 use Rattle.bits.specs.Mask.{bit}
@@ -9,11 +9,6 @@ use Rattle.pack.proofs.Laws.Slot.{rank-none, rank-next, rank-le}
 use Rattle.pack.proofs.Laws.Mask.{packedTo, to-none, to-all, to-more, to-fits, term}
 use Rattle.pack.proofs.packed_mask.Statement.{statement}
 use Rattle.pack.proofs.packed_mask.Tie as tie
-use Rattle.pack.proofs.packed_mask.Reads as reads
-use Rattle.pack.proofs.packed_mask.Lts as lts
-use Rattle.bits.proofs.digit.Reads as digit-reads
-use Rattle.bits.proofs.only.Reads as only-reads
-use Rattle.bits.proofs.single.Reads as single-reads
 
 abbrev Inv-loop : tie.InvT-loop
 Inv-loop live m r₀ i₀ v₀ r i v = (v ≤ 64) × (i ≡ rank live v) × (r ≡ packedTo live m i)
@@ -21,27 +16,21 @@ Inv-loop live m r₀ i₀ v₀ r i v = (v ≤ 64) × (i ≡ rank live v) × (r �
 abbrev μ-loop : tie.MeasureT-loop
 μ-loop live m r₀ i₀ v₀ r i v = 64 - v
 
--- src/lib.rt:30:5
 loop-holds : tie.Need-loop-holds Inv-loop μ-loop
 loop-holds c = (omega arith, sym (rank-none (c .args .live)), to-none (c .args .live) (c .args .m))
 
--- src/lib.rt:31:13
 digit-requires : tie.Need-digit-requires Inv-loop μ-loop
 digit-requires c κs = search needs
 
--- src/lib.rt:32:40
 digit-requires-2 : tie.Need-digit-requires-2 Inv-loop μ-loop
 digit-requires-2 c κs = search needs
 
--- src/lib.rt:32:59
 single-requires : tie.Need-single-requires Inv-loop μ-loop
 single-requires c κs = search needs
 
--- src/lib.rt:32:29
 only-requires : tie.Need-only-requires Inv-loop μ-loop
 only-requires c κs = search needs
 
--- src/lib.rt:32:14
 only-requires-2 : tie.Need-only-requires-2 Inv-loop μ-loop
 only-requires-2 c κs = search needs
 
@@ -59,14 +48,12 @@ added c =
     let o = c .before .only in
     term (a .live) (a .m) (l .v) (l .i) (d .result) (e .result) (s .result) (o .result) (c .only2 .result) (omega arith) (l .inv .1) (d .ensures .is) (e .ensures .is) (s .ensures) (o .ensures) (c .only2 .ensures)
 
--- src/lib.rt:32:9
 add-r : tie.Need-add-r Inv-loop μ-loop
 add-r c =
     let a = c .before .before .before .before .before .before .before .args in
     let l = c .before .before .before .before .before .before .loop in
     record { fits = to-fits (a .live) (a .m) (l .v) (l .i) (l .r) (c .only2 .result) (omega arith) (l .inv .1) (l .inv .2) (added c) }
 
--- src/lib.rt:33:9
 add-i : tie.Need-add-i Inv-loop μ-loop
 add-i c =
     let a = c .before .before .before .before .before .before .before .args in
@@ -74,15 +61,12 @@ add-i c =
     let d = c .before .before .before .before .digit .ensures in
     omega (arith, rank-le (a .live) (l .v))
 
--- src/lib.rt:34:9
 add-v : tie.Need-add-v Inv-loop μ-loop
 add-v c = search needs
 
--- src/lib.rt:30:5
 loop-less : tie.Need-loop-less Inv-loop μ-loop
 loop-less c = search needs
 
--- src/lib.rt:30:5
 loop-again : tie.Need-loop-again Inv-loop μ-loop
 loop-again c =
     let a = c .before .before .before .before .before .before .before .args in
@@ -93,7 +77,6 @@ loop-again c =
       to-more (a .live) (a .m) (l .v) (l .i) (d .result) (l .r) (c .only2 .result) (omega arith) (l .inv .1) (d .ensures .is) (l .inv .2) (added c),
     )
 
--- src/lib.rt:24:1
 returns : tie.Need-returns Inv-loop μ-loop
 returns c =
     let a = c .before .before .args in

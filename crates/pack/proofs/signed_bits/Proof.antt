@@ -1,6 +1,6 @@
 -- `signed_bits` meets its contract: the sum is not negative, and its rest is the number of 16 bits.
 use mathlib.Core.Path.{_≡_, sym, ap, _∙_, subst}
-use Prim.Native.Nat.{ℕ, _%_}
+use Prim.Native.Nat.{_%_}
 use native.Mathlib.Omega.{arith}
 use lib.Dec.{T}
 use lib.IntN.{ℤ, pos, natAbs, _+ℤ_}
@@ -12,8 +12,6 @@ use Rattle.pack.proofs.Laws.Signed.{raised, raised-is, raised-lt, raise
 use borrow.Author.Needs.{needs}
 use Rattle.pack.proofs.signed_bits.Statement.{statement}
 use Rattle.pack.proofs.signed_bits.Tie as tie
-use Rattle.pack.proofs.signed_bits.Reads as reads
-use Rattle.pack.proofs.signed_bits.Lts as lts
 
 -- the power as the word reads it
 same : (c : tie.Start) → toZ w32 (ofZ w32 (c .args .s)) ≡ c .args .s
@@ -26,16 +24,13 @@ add-result c = rw (same c) (raised-fits (c .args .s) (c .pre))
 back : (c : tie.Start) → toZ w32 (ofZ w32 (toZ w32 (ofZ w32 (c .args .s)) +ℤ pos 65536)) ≡ pos (raised (c .args .s))
 back c = toZ-ofZ (add-result c) ∙ ap (λ (z : ℤ). z +ℤ pos 65536) (same c) ∙ raised-is (c .args .s) (c .pre)
 
--- src/lib.rt:103:6
 cast-result : tie.Need-cast-result
 cast-result c =
     subst (λ (z : ℤ). T (nonNeg z) × Fits w32 (natAbs z)) (sym (back c)) (tt, record { fits = omega (arith, raised-lt (c .args .s) (c .pre)) })
 
--- src/lib.rt:103:5
 cast-result-2 : tie.Need-cast-result-2
 cast-result-2 c = search needs
 
--- src/lib.rt:99:1
 returns : tie.Need-returns
 returns c = ap (λ (z : ℤ). natAbs z % 65536) (back c) ∙ raised-rest (c .args .s) (c .pre)
 

@@ -1,17 +1,14 @@
 -- `slot_at` meets its contract: as many live slots as `below` counts were passed, and none of them is the one.
 use mathlib.Core.Logic.{⊎-elim}
-use mathlib.Core.Path.{_≡_, refl, sym, ap, _∙_}
-use Prim.Native.Nat.{ℕ, _≤_, _-_}
+use mathlib.Core.Path.{_≡_, sym, ap, _∙_}
+use Prim.Native.Nat.{_≤_, _-_}
 use native.Mathlib.Omega.{arith}
 use borrow.Author.Needs.{needs}
 use Rattle.bits.proofs.Laws.Bit.{bit-lt}
 use Rattle.pack.specs.Slot.{rank, slotAt}
-use Rattle.pack.proofs.Laws.Slot.{rank-none, rank-next, rank-le, slot-rank, slot-none}
+use Rattle.pack.proofs.Laws.Slot.{rank-none, rank-next, slot-rank, slot-none}
 use Rattle.pack.proofs.slot_at.Statement.{statement}
 use Rattle.pack.proofs.slot_at.Tie as tie
-use Rattle.pack.proofs.slot_at.Reads as reads
-use Rattle.pack.proofs.slot_at.Lts as lts
-use Rattle.bits.proofs.digit.Reads as digit-reads
 
 abbrev Inv-loop : tie.InvT-loop
 Inv-loop live i below₀ v₀ below v = (v ≤ 64) × (below ≡ rank live v) × (below ≤ i)
@@ -19,15 +16,12 @@ Inv-loop live i below₀ v₀ below v = (v ≤ 64) × (below ≡ rank live v) ×
 abbrev μ-loop : tie.MeasureT-loop
 μ-loop live i below₀ v₀ below v = 64 - v
 
--- src/lib.rt:11:5
 loop-holds : tie.Need-loop-holds Inv-loop μ-loop
 loop-holds c = (omega arith, sym (rank-none (c .args .live)), omega arith)
 
--- src/lib.rt:12:12
 digit-requires : tie.Need-digit-requires Inv-loop μ-loop
 digit-requires c κs = search needs
 
--- src/lib.rt:14:17
 returns : tie.Need-returns Inv-loop μ-loop
 returns c =
     let l = c .before .before .before .before .loop in
@@ -36,19 +30,15 @@ returns c =
     let e : a .i ≡ rank (a .live) (l .v) = omega arith in
     sym (ap (slotAt (a .live)) e ∙ slot-rank (a .live) (l .v) (omega arith) (sym (d .is) ∙ c .before .if1 .taken))
 
--- src/lib.rt:16:13
 add-below : tie.Need-add-below Inv-loop μ-loop
 add-below c = search needs
 
--- src/lib.rt:18:9
 add-v : tie.Need-add-v Inv-loop μ-loop
 add-v c = search needs
 
--- src/lib.rt:11:5
 loop-less : tie.Need-loop-less Inv-loop μ-loop
 loop-less c = search needs
 
--- src/lib.rt:11:5
 loop-again : tie.Need-loop-again Inv-loop μ-loop
 loop-again c =
     let a = c .before .before .before .before .args in
@@ -59,7 +49,6 @@ loop-again c =
     (λ w. (omega arith, omega (arith, rank-next (a .live) (l .v) (l .below) 0 (l .inv .1) (omega (arith, bit-lt (a .live) (l .v)))), omega arith))
     (c .if1 .came)
 
--- src/lib.rt:6:1
 returns-2 : tie.Need-returns-2 Inv-loop μ-loop
 returns-2 c =
     let a = c .before .before .args in

@@ -1,119 +1,87 @@
 -- `write_fields` meets its contract: the fields, one behind the other.
 use mathlib.Core.Bool.{Bool}
-use mathlib.Core.List.{List, [], _∷_, _++_}
-use mathlib.Core.Path.{_≡_, refl, ap, _∙_}
+use mathlib.Core.List.{List, [], _∷_}
 use Prim.Native.Nat.{ℕ, _+_, _*_}
 use lib.IntN.{ℤ}
-use Rattle.fields.specs.Bytes.{le, front}
+use Rattle.fields.specs.Bytes.{le}
 use Rattle.fields.proofs.Laws.Front.{lent-front}
 use Rattle.form.specs.Form.{turnAt, rowAt}
 use Rattle.ties.specs.Ties.{maskAt, sideAt}
-use Rattle.pack.specs.Body.{joined, headBytes, tieBytes, fieldBytes, plainBytes}
-use Rattle.pack.proofs.Laws.Bytes.{toTurns, toRows, toCount, toTies, length-turns, length-rows, length-count, length-ties, fields-are}
+use Rattle.pack.specs.Body.{joined, tieBytes, fieldBytes, plainBytes}
+use Rattle.pack.proofs.Laws.Bytes.{toTurns, toRows, toCount, toTies, length-turns, length-rows, length-count, length-ties}
 use borrow.Author.Needs.{needs}
 use Rattle.pack.proofs.write_fields.Statement.{statement}
 use Rattle.pack.proofs.write_fields.Tie as tie
-use Rattle.pack.proofs.write_fields.Reads as reads
-use Rattle.pack.proofs.write_fields.Lts as lts
-use Rattle.fields.proofs.write_u8.Reads as write-u8-reads
-use Rattle.pack.proofs.write_head.Reads as write-head-reads
-use Rattle.pack.proofs.write_rows.Reads as write-rows-reads
-use Rattle.pack.proofs.write_ties.Reads as write-ties-reads
-use Rattle.pack.proofs.write_turns.Reads as write-turns-reads
 
--- src/lib.rt:184:5
 write-head-requires : tie.Need-write-head-requires
 write-head-requires c κs = search needs
 
--- src/lib.rt:185:17
 sub-write-turns : tie.Need-sub-write-turns
 sub-write-turns c = search needs
 
--- src/lib.rt:185:17
 part-write-turns-start : tie.Need-part-write-turns-start
 part-write-turns-start c = search needs
 
--- src/lib.rt:185:17
 part-write-turns-end : tie.Need-part-write-turns-end
 part-write-turns-end c = search needs
 
--- src/lib.rt:185:5
 write-turns-requires : tie.Need-write-turns-requires
 write-turns-requires c κs = search needs
 
--- src/lib.rt:186:16
 add-rows : tie.Need-add-rows
 add-rows c = search needs
 
--- src/lib.rt:187:16
 sub-write-rows : tie.Need-sub-write-rows
 sub-write-rows c = search needs
 
--- src/lib.rt:187:16
 part-write-rows-start : tie.Need-part-write-rows-start
 part-write-rows-start c = search needs
 
--- src/lib.rt:187:16
 part-write-rows-end : tie.Need-part-write-rows-end
 part-write-rows-end c = search needs
 
--- src/lib.rt:187:5
 write-rows-requires : tie.Need-write-rows-requires
 write-rows-requires c κs = search needs
 
--- src/lib.rt:188:24
 mul-count : tie.Need-mul-count
 mul-count c = search needs
 
--- src/lib.rt:188:17
 add-count : tie.Need-add-count
 add-count c = search needs
 
--- src/lib.rt:189:22
 sub-write-u8 : tie.Need-sub-write-u8
 sub-write-u8 c = search needs
 
--- src/lib.rt:189:22
 part-write-u8-start : tie.Need-part-write-u8-start
 part-write-u8-start c = search needs
 
--- src/lib.rt:189:22
 part-write-u8-end : tie.Need-part-write-u8-end
 part-write-u8-end c = search needs
 
--- src/lib.rt:189:42
 cast-write-u8 : tie.Need-cast-write-u8
 cast-write-u8 c = search needs
 
--- src/lib.rt:189:5
 write-u8-requires : tie.Need-write-u8-requires
 write-u8-requires c κs = search needs
 
--- src/lib.rt:190:16
 add-rest : tie.Need-add-rest
 add-rest c = search needs
 
--- src/lib.rt:191:16
 sub-write-ties : tie.Need-sub-write-ties
 sub-write-ties c = search needs
 
--- src/lib.rt:191:16
 part-write-ties-start : tie.Need-part-write-ties-start
 part-write-ties-start c = search needs
 
--- src/lib.rt:191:16
 part-write-ties-end : tie.Need-part-write-ties-end
 part-write-ties-end c = search needs
 
--- src/lib.rt:191:5
 write-ties-requires : tie.Need-write-ties-requires
 write-ties-requires c κs = search needs
 
--- src/lib.rt:174:1
 same-length : tie.Need-same-length
 same-length c = search needs
 
--- src/lib.rt:174:1
 returns : tie.Need-returns
 unfolding plainBytes fieldBytes toTurns toRows toCount toTies
 returns c =

@@ -1,11 +1,10 @@
 -- `write_head` meets its contract: the three fields, one behind the other.
-use mathlib.Core.List.{List, [], _∷_, _++_}
+use mathlib.Core.List.{[], _∷_, _++_}
 use mathlib.Core.Path.{_≡_, refl, ap, _∙_}
 use Prim.Native.Nat.{ℕ}
-use lib.IntN.{ℤ}
 use mir.Facts.{toZ-ofZ}
 use mir.Syntax.{w32}
-use mir.Val.{SFits, toZ, ofZ}
+use mir.Val.{toZ, ofZ}
 use Rattle.fields.specs.Bytes.{le, front}
 use Rattle.fields.proofs.Laws.Front.{lent-front}
 use Rattle.table.proofs.Laws.Scale.{in-range-fits}
@@ -14,62 +13,43 @@ use Rattle.pack.proofs.Laws.Bytes.{front-same}
 use borrow.Author.Needs.{needs}
 use Rattle.pack.proofs.write_head.Statement.{statement}
 use Rattle.pack.proofs.write_head.Tie as tie
-use Rattle.pack.proofs.write_head.Reads as reads
-use Rattle.pack.proofs.write_head.Lts as lts
-use Rattle.fields.proofs.write_u16.Reads as write-u16-reads
-use Rattle.fields.proofs.write_u8.Reads as write-u8-reads
-use Rattle.pack.proofs.mark_byte.Reads as mark-byte-reads
-use Rattle.pack.proofs.signed_bits.Reads as signed-bits-reads
 
--- src/lib.rt:118:28
 mark-byte-requires : tie.Need-mark-byte-requires
 mark-byte-requires c κs = search needs
 
--- src/lib.rt:118:5
 write-u8-requires : tie.Need-write-u8-requires
 write-u8-requires c κs = search needs
 
--- src/lib.rt:119:22
 sub-write-u8 : tie.Need-sub-write-u8
 sub-write-u8 c = search needs
 
--- src/lib.rt:119:22
 part-write-u8-start : tie.Need-part-write-u8-start
 part-write-u8-start c = search needs
 
--- src/lib.rt:119:22
 part-write-u8-end : tie.Need-part-write-u8-end
 part-write-u8-end c = search needs
 
--- src/lib.rt:119:5
 write-u8-requires-2 : tie.Need-write-u8-requires-2
 write-u8-requires-2 c κs = search needs
 
--- src/lib.rt:120:23
 sub-write-u16 : tie.Need-sub-write-u16
 sub-write-u16 c = search needs
 
--- src/lib.rt:120:23
 part-write-u16-start : tie.Need-part-write-u16-start
 part-write-u16-start c = search needs
 
--- src/lib.rt:120:23
 part-write-u16-end : tie.Need-part-write-u16-end
 part-write-u16-end c = search needs
 
--- src/lib.rt:120:39
 signed-bits-requires : tie.Need-signed-bits-requires
 signed-bits-requires c κs = search needs
 
--- src/lib.rt:120:5
 write-u16-requires : tie.Need-write-u16-requires
 write-u16-requires c κs = search needs
 
--- src/lib.rt:114:1
 same-length : tie.Need-same-length
 same-length c = search needs
 
--- src/lib.rt:114:1
 returns : tie.Need-returns
 unfolding headBytes
 returns c =

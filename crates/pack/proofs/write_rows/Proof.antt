@@ -1,6 +1,5 @@
 -- `write_rows` meets its contract: the fields below i are written.
-use mathlib.Core.List.{List, [], _∷_}
-use mathlib.Core.Path.{_≡_, refl, sym, ap, _∙_}
+use mathlib.Core.Path.{_≡_, refl, ap, _∙_}
 use Prim.Native.Nat.{ℕ, _≤_, _-_, _*_}
 use native.Mathlib.Omega.{arith}
 use borrow.Author.Needs.{needs}
@@ -10,13 +9,9 @@ use Rattle.fields.specs.Bytes.{le, front}
 use Rattle.fields.proofs.Laws.Front.{lent-part, length-le}
 use Rattle.form.specs.Form.{rowAt}
 use Rattle.pack.specs.Body.{joined}
-use Rattle.pack.proofs.Laws.Bytes.{lent-none, lent-next, lent-done, length-tie}
+use Rattle.pack.proofs.Laws.Bytes.{lent-none, lent-next, lent-done}
 use Rattle.pack.proofs.write_rows.Statement.{statement}
 use Rattle.pack.proofs.write_rows.Tie as tie
-use Rattle.pack.proofs.write_rows.Reads as reads
-use Rattle.pack.proofs.write_rows.Lts as lts
-use Rattle.fields.proofs.write_u64.Reads as write-u64-reads
-use Rattle.form.proofs.Form.row_at.Reads as row-at-reads
 
 abbrev Inv-loop : tie.InvT-loop
 Inv-loop part₀ f n i₀ part i = (i ≤ n) × (length part ≡ length part₀) × (part ≡ front part₀ (joined i (λ v. le 8 (rowAt f v))))
@@ -24,43 +19,33 @@ Inv-loop part₀ f n i₀ part i = (i ≤ n) × (length part ≡ length part₀)
 abbrev μ-loop : tie.MeasureT-loop
 μ-loop part₀ f n i₀ part i = n - i
 
--- src/lib.rt:136:5
 loop-holds : tie.Need-loop-holds Inv-loop μ-loop
 loop-holds c = (omega arith, refl, lent-none _ _)
 
--- src/lib.rt:137:18
 mul-at : tie.Need-mul-at Inv-loop μ-loop
 mul-at c = search needs
 
--- src/lib.rt:138:13
 row-at-requires : tie.Need-row-at-requires Inv-loop μ-loop
 row-at-requires c κs = search needs
 
--- src/lib.rt:139:27
 sub-write-u64 : tie.Need-sub-write-u64 Inv-loop μ-loop
 sub-write-u64 c = search needs
 
--- src/lib.rt:139:27
 part-write-u64-start : tie.Need-part-write-u64-start Inv-loop μ-loop
 part-write-u64-start c = search needs
 
--- src/lib.rt:139:27
 part-write-u64-end : tie.Need-part-write-u64-end Inv-loop μ-loop
 part-write-u64-end c = search needs
 
--- src/lib.rt:139:9
 write-u64-requires : tie.Need-write-u64-requires Inv-loop μ-loop
 write-u64-requires c κs = simp (lent-part, length-drop) (omega arith)
 
--- src/lib.rt:140:9
 add-i : tie.Need-add-i Inv-loop μ-loop
 add-i c = search needs
 
--- src/lib.rt:136:5
 loop-less : tie.Need-loop-less Inv-loop μ-loop
 loop-less c = search needs
 
--- src/lib.rt:136:5
 loop-again : tie.Need-loop-again Inv-loop μ-loop
 loop-again c =
     let w = c .before .before in
@@ -74,11 +59,9 @@ loop-again c =
           (w .write-u64 .ensures ∙ ap (λ (x : ℕ). front (take (length (l .part) - at) (drop at (l .part))) (le 8 x)) (k .row-at .ensures)),
     )
 
--- src/lib.rt:131:1
 same-length : tie.Need-same-length Inv-loop μ-loop
 same-length c = c .before .loop .inv .1
 
--- src/lib.rt:131:1
 returns : tie.Need-returns Inv-loop μ-loop
 returns c = lent-done _ _ _ _ _ (omega arith) (c .before .loop .inv .2)
 

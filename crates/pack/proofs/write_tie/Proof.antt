@@ -6,36 +6,25 @@ use Rattle.pack.specs.Body.{tieBytes}
 use borrow.Author.Needs.{needs}
 use Rattle.pack.proofs.write_tie.Statement.{statement}
 use Rattle.pack.proofs.write_tie.Tie as tie
-use Rattle.pack.proofs.write_tie.Reads as reads
-use Rattle.pack.proofs.write_tie.Lts as lts
-use Rattle.fields.proofs.write_u64.Reads as write-u64-reads
-use Rattle.fields.proofs.write_u8.Reads as write-u8-reads
 
--- src/lib.rt:149:5
 write-u64-requires : tie.Need-write-u64-requires
 write-u64-requires c κs = search needs
 
--- src/lib.rt:150:22
 sub-write-u8 : tie.Need-sub-write-u8
 sub-write-u8 c = search needs
 
--- src/lib.rt:150:22
 part-write-u8-start : tie.Need-part-write-u8-start
 part-write-u8-start c = search needs
 
--- src/lib.rt:150:22
 part-write-u8-end : tie.Need-part-write-u8-end
 part-write-u8-end c = search needs
 
--- src/lib.rt:150:5
 write-u8-requires : tie.Need-write-u8-requires
 write-u8-requires c κs = search needs
 
--- src/lib.rt:145:1
 same-length : tie.Need-same-length
 same-length c = search needs
 
--- src/lib.rt:145:1
 returns : tie.Need-returns
 unfolding tieBytes
 returns c =

@@ -1,23 +1,18 @@
 -- `write_ties` meets its contract: the fields below j are written.
-use mathlib.Core.List.{List, [], _∷_}
-use mathlib.Core.Path.{_≡_, refl, sym, ap, _∙_}
-use Prim.Native.Nat.{ℕ, _≤_, _-_, _*_}
+use mathlib.Core.Path.{_≡_, refl, ap, _∙_}
+use Prim.Native.Nat.{_≤_, _-_, _*_}
 use native.Mathlib.Omega.{arith}
 use borrow.Author.Needs.{needs}
 use borrow.Rule.Slice.PartMut.{same-len-mid}
 use lib.ListN.{length, take, drop, length-drop}
-use Rattle.fields.specs.Bytes.{le, front}
-use Rattle.fields.proofs.Laws.Front.{lent-part, length-le}
+use Rattle.fields.specs.Bytes.{front}
+use Rattle.fields.proofs.Laws.Front.{lent-part}
 use Rattle.ties.specs.declared.Tie.{Tie}
 use Rattle.ties.specs.Ties.{maskAt, sideAt}
 use Rattle.pack.specs.Body.{joined, tieBytes}
 use Rattle.pack.proofs.Laws.Bytes.{lent-none, lent-next, lent-done, length-tie}
 use Rattle.pack.proofs.write_ties.Statement.{statement}
 use Rattle.pack.proofs.write_ties.Tie as tie
-use Rattle.pack.proofs.write_ties.Reads as reads
-use Rattle.pack.proofs.write_ties.Lts as lts
-use Rattle.pack.proofs.write_tie.Reads as write-tie-reads
-use Rattle.ties.proofs.Ties.tie_at.Reads as tie-at-reads
 
 abbrev Inv-loop : tie.InvT-loop
 Inv-loop part₀ t k j₀ part j = (j ≤ k) × (length part ≡ length part₀) × (part ≡ front part₀ (joined j (λ u. tieBytes (maskAt t u) (sideAt t u))))
@@ -25,43 +20,33 @@ Inv-loop part₀ t k j₀ part j = (j ≤ k) × (length part ≡ length part₀)
 abbrev μ-loop : tie.MeasureT-loop
 μ-loop part₀ t k j₀ part j = k - j
 
--- src/lib.rt:159:5
 loop-holds : tie.Need-loop-holds Inv-loop μ-loop
 loop-holds c = (omega arith, refl, lent-none _ _)
 
--- src/lib.rt:160:18
 mul-at : tie.Need-mul-at Inv-loop μ-loop
 mul-at c = search needs
 
--- src/lib.rt:161:13
 tie-at-requires : tie.Need-tie-at-requires Inv-loop μ-loop
 tie-at-requires c κs = search needs
 
--- src/lib.rt:162:19
 sub-write-tie : tie.Need-sub-write-tie Inv-loop μ-loop
 sub-write-tie c = search needs
 
--- src/lib.rt:162:19
 part-write-tie-start : tie.Need-part-write-tie-start Inv-loop μ-loop
 part-write-tie-start c = search needs
 
--- src/lib.rt:162:19
 part-write-tie-end : tie.Need-part-write-tie-end Inv-loop μ-loop
 part-write-tie-end c = search needs
 
--- src/lib.rt:162:9
 write-tie-requires : tie.Need-write-tie-requires Inv-loop μ-loop
 write-tie-requires c κs = simp (lent-part, length-drop) (omega arith)
 
--- src/lib.rt:163:9
 add-j : tie.Need-add-j Inv-loop μ-loop
 add-j c = search needs
 
--- src/lib.rt:159:5
 loop-less : tie.Need-loop-less Inv-loop μ-loop
 loop-less c = search needs
 
--- src/lib.rt:159:5
 loop-again : tie.Need-loop-again Inv-loop μ-loop
 loop-again c =
     let w = c .before .before in
@@ -75,11 +60,9 @@ loop-again c =
           (w .write-tie .ensures ∙ ap (λ (x : Tie). front (take (length (l .part) - at) (drop at (l .part))) (tieBytes (x .mask) (x .side))) (k .tie-at .ensures)),
     )
 
--- src/lib.rt:154:1
 same-length : tie.Need-same-length Inv-loop μ-loop
 same-length c = c .before .loop .inv .1
 
--- src/lib.rt:154:1
 returns : tie.Need-returns Inv-loop μ-loop
 returns c = lent-done _ _ _ _ _ (omega arith) (c .before .loop .inv .2)
 
