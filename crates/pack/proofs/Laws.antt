@@ -9,3 +9,4 @@ pub mod Sum
 pub mod First
 pub mod Normal
 pub mod Entry
+pub mod Same

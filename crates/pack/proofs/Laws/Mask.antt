@@ -1,6 +1,6 @@
--- Packed masks: their bits, their size, and the loop that makes them. A sum of digits has these digits, by halving.
+-- Packed masks: their bits, their size, and the loop that makes them. A sum of digits is the mask that has them.
 use mathlib.Core.Path.{_≡_, refl, sym, ap, ap₂, _∙_}
-use Prim.Native.Nat.{ℕ, zero, suc, _+_, _*_, _/_, _%_, _^_, _≤_, _<_}
+use Prim.Native.Nat.{ℕ, zero, suc, _+_, _*_, _%_, _^_, _≤_, _<_}
 use native.Mathlib.Nat.{pow-suc, add-zero}
 use native.Mathlib.Numerals.{add-one}
 use native.Mathlib.Omega.{arith}
@@ -9,7 +9,8 @@ use lib.Pow.{pow-mono}
 use Rattle.exact.specs.Sum.{total}
 use Rattle.exact.proofs.Laws.Sum.{total-ext, total-mul, total-first}
 use Rattle.bits.specs.Mask.{bit, pow}
-use Rattle.bits.proofs.Laws.Bit.{bit-lt, bit-zero, bit-half, bit-above, pow-low}
+use Rattle.bits.proofs.Laws.Packed as mask
+use Rattle.bits.proofs.Laws.Bit.{bit-lt, bit-above, pow-low}
 use Rattle.pack.specs.Slot.{rank, slotAt, packedMask}
 use Rattle.pack.proofs.Laws.Slot.{rank-le, slot-rank, ones-rank}
 
@@ -23,17 +24,13 @@ digits-first n b =
     total-first n (λ i. b i * 2 ^ i)
     ∙ ap₂ (λ (x y : ℕ). x + y) (omega arith) (total-ext n _ _ (λ i l. ap (λ (p : ℕ). b (suc i) * p) (pow-suc 2 i) ∙ omega arith) ∙ total-mul n 2 (λ i. b (suc i) * 2 ^ i))
 
-pub digits-lt : (n : ℕ) (b : ℕ → ℕ) → ((i : ℕ) → b i < 2) → digits n b < 2 ^ n
-unfolding digits total
-digits-lt zero b h = omega arith
-digits-lt (suc n) b h = omega (arith, digits-first n b, digits-lt n (λ i. b (suc i)) (λ i. h (suc i)), h 0, pow-suc 2 n)
+digits-mask : (n : ℕ) (b : ℕ → ℕ) → digits n b ≡ mask.packed n b
+unfolding digits total mask.packed
+digits-mask zero b = refl
+digits-mask (suc n) b = digits-first n b ∙ ap (λ (x : ℕ). b 0 + 2 * x) (digits-mask n (λ i. b (suc i)))
 
-pub digits-bit : (n : ℕ) (b : ℕ → ℕ) → ((i : ℕ) → b i < 2) → (j : ℕ) → j < n → bit (digits n b) j ≡ b j
-digits-bit zero b h j l = absurd (omega arith)
-digits-bit (suc n) b h zero l = bit-zero (digits (suc n) b) ∙ omega (arith, digits-first n b, h 0)
-digits-bit (suc n) b h (suc j) l =
-    let half : digits (suc n) b / 2 ≡ digits n (λ i. b (suc i)) = omega (arith, digits-first n b, h 0) in
-    sym (bit-half (digits (suc n) b) j) ∙ ap (λ (x : ℕ). bit x j) half ∙ digits-bit n (λ i. b (suc i)) (λ i. h (suc i)) j (omega arith)
+digits-lt : (n : ℕ) (b : ℕ → ℕ) → ((i : ℕ) → b i < 2) → digits n b < 2 ^ n
+digits-lt n b h = rw (digits-mask n b) (mask.packed-lt n b h)
 
 -- ---- a packed mask
 packed-digits : (live m : ℕ) → packedMask live m ≡ digits (ones live) (λ i. bit m (slotAt live i))
@@ -45,7 +42,8 @@ packed-lt live m = rw (packed-digits live m) (digits-lt (ones live) (λ i. bit m
 
 pub packed-bit : (live m i : ℕ) → i < ones live → bit (packedMask live m) i ≡ bit m (slotAt live i)
 packed-bit live m i l =
-    ap (λ (x : ℕ). bit x i) (packed-digits live m) ∙ digits-bit (ones live) (λ j. bit m (slotAt live j)) (λ j. bit-lt m (slotAt live j)) i l
+    ap (λ (x : ℕ). bit x i) (packed-digits live m ∙ digits-mask (ones live) (λ j. bit m (slotAt live j)))
+    ∙ mask.packed-bit (ones live) (λ j. bit m (slotAt live j)) (λ j. bit-lt m (slotAt live j)) i l
 
 pub packed-above : (live m i : ℕ) → ones live ≤ i → bit (packedMask live m) i ≡ 0
 packed-above live m i l = bit-above (ones live) (packedMask live m) i (packed-lt live m) l
