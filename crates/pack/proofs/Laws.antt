@@ -10,3 +10,4 @@ pub mod First
 pub mod Normal
 pub mod Entry
 pub mod Same
+pub mod Write

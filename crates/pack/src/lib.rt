@@ -10,6 +10,7 @@ ghost use Rattle.table.specs.Normal.{InRange, Normal};
 ghost use Rattle.pack.specs.Slot.{slotAt, packedMask};
 ghost use Rattle.pack.specs.Packed.{packedForm, packedTies, packedTable};
 ghost use Rattle.pack.specs.Body.{mark, ofSigned16, headBytes, joined, tieBytes, plainBytes, bodyBytes, Fitting};
+ghost use Rattle.pack.specs.Write.{BodyWritten};
 use exact::Eighth;
 use exact::Power;
 use exact::Slot;
@@ -17,6 +18,12 @@ use form::Form;
 use table::Table;
 use ties::Tie;
 use ties::Ties;
+
+// What a writer answers: a refusal's number or 0, and the bytes written.
+pub struct Written {
+    pub refusal: u8,
+    pub bytes: usize,
+}
 
 // Live slot `i` of a mask, counted from 0 in rising order, and 64 where there is none.
 fn slot_at(live: u64, i: usize) -> usize
@@ -198,4 +205,43 @@ fn write_body(part: &mut [u8], t: Table)
 {
     let n = bits::count(t.live);
     write_fields(part, pack(t), n);
+}
+
+// How many bytes the body of a normal table is.
+fn body_size(t: Table) -> usize
+    requires { ⌜ Normal t ⌝ }
+    ensures { λ r. ⌜ r ≡ length (bodyBytes t) ⌝ }
+{
+    let ties = t.ties;
+    5 + 9 * bits::count(t.live) + 9 * ties.count
+}
+
+// The body of a table in a lent area, from a start on; where refused, nothing is written.
+pub fn write(t: Table, area: &mut [u8], start: usize) -> Written
+    ensures { λ r. ⌜ BodyWritten t (now (area .entry)) start r (now (area .exit)) ⌝ }
+{
+    if !t.normal() {
+        return Written {
+            refusal: 12,
+            bytes: 0,
+        };
+    }
+    let size = body_size(t);
+    if area.len() < start {
+        return Written {
+            refusal: 13,
+            bytes: 0,
+        };
+    }
+    if area.len() - start < size {
+        return Written {
+            refusal: 13,
+            bytes: 0,
+        };
+    }
+    write_body(&mut area[start..], t);
+    Written {
+        refusal: 0,
+        bytes: size,
+    }
 }
