@@ -1,20 +1,18 @@
 -- The writer of a body: what it answers and leaves in each of its ways out, and that no second answer and area meet its contract.
 use mathlib.Core.List.{List, [], _∷_}
 use mathlib.Core.Logic.{_≢_, _⊎_, inl, inr, ⊎-elim}
-use mathlib.Core.Path.{_≡_, refl, sym, ap, ap₂, _∙_}
+use mathlib.Core.Path.{_≡_, refl, sym, ap, _∙_}
 use Prim.Native.Nat.{ℕ, _+_, _≤_, _<_}
 use native.Mathlib.Omega.{arith}
 use borrow.Author.Tests.{lt-ltb, le-ltb}
-use lib.Count.{ones}
 use lib.ListN.{length}
 use mathlib.Core.Bool.{Bool}
 use Rattle.exact.specs.Refusal.{accepted, notNormal, areaShort, first, _gives_}
 use Rattle.bits.proofs.Laws.Bit.{same-or}
 use Rattle.fields.specs.Bytes.{over}
 use Rattle.table.specs.declared.Table.{Table}
-use Rattle.table.specs.Entry.{ties}
 use Rattle.table.specs.Normal.{Normal}
-use Rattle.pack.specs.Body.{bodyBytes, bodySize}
+use Rattle.pack.specs.Body.{bodyBytes}
 use Rattle.pack.specs.Write.{Written, bodyNumber, BodyWritten}
 use Rattle.pack.proofs.Laws.Body.{length-body}
 

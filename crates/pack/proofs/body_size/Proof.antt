@@ -4,31 +4,22 @@ use Rattle.pack.proofs.Laws.Body.{length-body}
 use borrow.Author.Needs.{needs}
 use Rattle.pack.proofs.body_size.Statement.{statement}
 use Rattle.pack.proofs.body_size.Tie as tie
-use Rattle.pack.proofs.body_size.Reads as reads
-use Rattle.pack.proofs.body_size.Lts as lts
-use Rattle.bits.proofs.count.Reads as count-reads
 
--- src/lib.rt:217:13
 count-requires : tie.Need-count-requires
 count-requires c κs = search needs
 
--- src/lib.rt:217:9
 mul-result : tie.Need-mul-result
 mul-result c = search needs
 
--- src/lib.rt:217:5
 add-result : tie.Need-add-result
 add-result c = search needs
 
--- src/lib.rt:217:35
 mul-result-2 : tie.Need-mul-result-2
 mul-result-2 c = search needs
 
--- src/lib.rt:217:5
 add-result-2 : tie.Need-add-result-2
 add-result-2 c = search needs
 
--- src/lib.rt:212:1
 returns : tie.Need-returns
 returns c = omega (arith, length-body (c .before .before .before .args .t), c .before .count .ensures .is)
 
