@@ -1,0 +1,4 @@
+pub mod Slot
+pub mod Packed
+pub mod Body
+pub mod Write
