@@ -7,3 +7,4 @@ pub mod Fine
 pub mod Parts
 pub mod Table
 pub mod Read
+pub mod Stated

@@ -1,6 +1,6 @@
 -- The tests of a body on each way through the code: by the truth of each test.
-use mathlib.Core.Path.{_≡_, sym, ap, ap₂, _∙_}
-use mathlib.Core.Bool.{Bool, true, false, not, _||_, or-true}
+use mathlib.Core.Path.{_≡_, sym, ap, _∙_}
+use mathlib.Core.Bool.{Bool, true, false, not}
 use mathlib.Core.List.{List}
 use Prim.Native.Nat.{ℕ, _+_, _*_, _^_, _≤_, _<_}
 use native.Mathlib.Omega.{arith}
@@ -33,9 +33,9 @@ module _ (n : ℕ) (bs : List ℕ) where
       size-length h = rw (le-ltb 64 n a, le-ltb (length bs) (5 + 9 * n) b, le-ltb n (countOf n bs) h)
 
   -- ---- a row, that is m, tested
-  pub row-is : (v m : ℕ) (b : Bool) → m ≡ rowOf n bs v → b ≡ leb (2 ^ n) m → b ≡ rowFault n bs v
+  pub row-tested : (v m : ℕ) (b : Bool) → m ≡ rowOf n bs v → b ≡ leb (2 ^ n) m → b ≡ rowFault n bs v
   unfolding rowFault
-  row-is v m b e t = t ∙ ap (leb (2 ^ n)) e
+  row-tested v m b e t = t ∙ ap (leb (2 ^ n)) e
 
   -- ---- a tie
   pub tie-mask : (j : ℕ) → leb (2 ^ n) (maskOf n bs j) ≡ true → true ≡ tieFault n bs j

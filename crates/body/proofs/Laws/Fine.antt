@@ -1,6 +1,6 @@
 -- What a body that is not refused by 11 says, field by field, and that such a body is not refused: by the truth of each test.
-use mathlib.Core.Path.{_≡_, ap, ap₂, _∙_}
-use mathlib.Core.Bool.{Bool, true, false, not, _||_}
+use mathlib.Core.Path.{_≡_}
+use mathlib.Core.Bool.{false, not, _||_}
 use mathlib.Core.List.{List}
 use Prim.Native.Nat.{ℕ, _+_, _*_, _^_, _≤_, _<_}
 use native.Mathlib.Omega.{arith}

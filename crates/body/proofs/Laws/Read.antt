@@ -7,7 +7,6 @@ use native.Mathlib.Omega.{arith}
 use lib.Dec.{eqb}
 use borrow.Author.Tests.{eqb-true, eqb-false}
 use Rattle.exact.specs.Refusal.{accepted, badBody, notNormal}
-use Rattle.exact.specs.Tells.{Tells}
 use Rattle.table.specs.declared.Table.{Table}
 use Rattle.table.specs.Entry.{freshTable}
 use Rattle.table.specs.Normal.{Normal}

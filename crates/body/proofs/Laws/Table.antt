@@ -1,5 +1,5 @@
 -- The table of a body, number by number: its turns, rows, masks and sides are the bytes' numbers and 0 beyond them, and the slots below the width are live.
-use mathlib.Core.Path.{_≡_, refl, ap, _∙_, subst}
+use mathlib.Core.Path.{_≡_, refl, ap}
 use mathlib.Core.Logic.{⊎-elim}
 use mathlib.Core.List.{List}
 use Prim.Native.Nat.{ℕ, _-_, _^_, _≤_, _<_}
@@ -15,7 +15,7 @@ use Rattle.form.specs.Form.{quarter, turnAt, rowAt}
 use Rattle.ties.specs.Ties.{maskAt, sideAt, leadAt}
 use Rattle.table.specs.Entry.{turn, row, tie, side, lead, ties, Live, Free}
 use Rattle.table.specs.Normal.{InRange}
-use Rattle.body.specs.Body.{markOf, phaseOf, powerOf, turnOf, quarterOf, rowOf, countOf, maskOf, sideOf, padded, formOf, tiesOf, tableOf}
+use Rattle.body.specs.Body.{markOf, phaseOf, powerOf, turnOf, quarterOf, rowOf, countOf, maskOf, sideOf, formOf, tiesOf, tableOf}
 use Rattle.body.proofs.Laws.Live.{live-bit, free-bit}
 use Rattle.body.proofs.Laws.Padded.{length-padded, padded-in, padded-out}
 use Rattle.body.proofs.Laws.Fine.{Fine}

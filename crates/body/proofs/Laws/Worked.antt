@@ -1,9 +1,9 @@
 -- A body worked by hand, to test the definitions by computing them: two slots with c = 5, s = −3, a_1 = 2, b_01 = 1 and one tie.
 use mathlib.Core.Path.{_≡_, refl}
-use mathlib.Core.Bool.{Bool, true, false}
+use mathlib.Core.Bool.{true, false}
 use mathlib.Core.List.{List, [], _∷_, map}
 use Prim.Native.Nat.{ℕ}
-use lib.IntN.{ℤ, negsuc}
+use lib.IntN.{negsuc}
 use lib.ListN.{set}
 use Rattle.fields.specs.Bytes.{number}
 use Rattle.contents.specs.Contents.{some}

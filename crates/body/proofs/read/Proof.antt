@@ -1,5 +1,5 @@
 -- `read` meets its contract: by the two tests.
-use mathlib.Core.Path.{_≡_, sym, _∙_, subst}
+use mathlib.Core.Path.{sym, _∙_, subst}
 use borrow.Author.Needs.{needs}
 use borrow.Author.Tests.{not-true, not-false}
 use Rattle.table.specs.declared.Table.{Table}

@@ -7,7 +7,7 @@ use borrow.Author.Needs.{needs}
 use Rattle.contents.specs.Contents.{some}
 use Rattle.contents.proofs.Laws.Some.{some-zero, some-next, some-here}
 use Rattle.body.specs.Body.{rowFault}
-use Rattle.body.proofs.Laws.Fault.{row-is, none-found}
+use Rattle.body.proofs.Laws.Fault.{row-tested, none-found}
 use Rattle.body.proofs.row_fault.Statement.{statement}
 use Rattle.body.proofs.row_fault.Tie as tie
 
@@ -30,7 +30,7 @@ returns : tie.Need-returns Inv-loop μ-loop
 returns c =
     let a = c .before .before .before .before .before .before .args in
     let v = c .before .before .before .before .loop .v in
-    let e = row-is (a .width) (a .bs .now) v _ _ (c .before .before .row-of .ensures) (c .before .mask-out .ensures) in
+    let e = row-tested (a .width) (a .bs .now) v _ _ (c .before .before .row-of .ensures) (c .before .mask-out .ensures) in
     sym (some-here (a .width) v (rowFault (a .width) (a .bs .now)) (omega arith) (sym e ∙ c .if1 .taken))
 
 add-v : tie.Need-add-v Inv-loop μ-loop
@@ -43,7 +43,7 @@ loop-again : tie.Need-loop-again Inv-loop μ-loop
 loop-again c =
     let a = c .before .before .before .before .before .before .args in
     let l = c .before .before .before .before .loop in
-    let e = row-is (a .width) (a .bs .now) (l .v) _ _ (c .before .before .row-of .ensures) (c .before .mask-out .ensures) in
+    let e = row-tested (a .width) (a .bs .now) (l .v) _ _ (c .before .before .row-of .ensures) (c .before .mask-out .ensures) in
     (omega arith, some-next (l .v) (rowFault (a .width) (a .bs .now)) (l .inv .1) (sym e ∙ c .if1 .left))
 
 returns-2 : tie.Need-returns-2 Inv-loop μ-loop

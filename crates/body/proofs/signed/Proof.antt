@@ -1,10 +1,7 @@
 -- `signed` meets its contract: the number as it stands, or less 2^16.
-use mathlib.Core.Path.{_≡_, sym, ap, _∙_, subst}
+use mathlib.Core.Path.{sym, _∙_}
 use native.Mathlib.Omega.{arith}
-use lib.IntN.{ℤ, pos, _-ℤ_}
 use mir.Facts.{toZ-ofZ}
-use mir.Syntax.{w32}
-use mir.Val.{SFits, toZ, ofZ}
 use borrow.Author.Needs.{needs}
 use Rattle.body.proofs.Laws.Signed.{plain, signed-low, signed-less, less-fits}
 use Rattle.body.proofs.signed.Statement.{statement}

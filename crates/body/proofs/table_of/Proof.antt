@@ -1,5 +1,5 @@
 -- `table_of` meets its contract: part by part; the width and the tie count are in range because the body is not refused.
-use mathlib.Core.Path.{_≡_, _∙_}
+use mathlib.Core.Path.{_∙_}
 use native.Mathlib.Omega.{arith}
 use mir.Facts.{toZ-ofZ}
 use mir.Syntax.{w32}

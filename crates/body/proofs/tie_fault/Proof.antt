@@ -1,6 +1,6 @@
 -- `tie_fault` meets its contract: by the mask's test.
-use mathlib.Core.Path.{_≡_, sym, ap, _∙_}
-use Prim.Native.Nat.{ℕ, _^_}
+use mathlib.Core.Path.{sym, ap, _∙_}
+use Prim.Native.Nat.{_^_}
 use lib.Dec.{leb, ltb}
 use borrow.Author.Needs.{needs}
 use Rattle.body.proofs.Laws.Fault.{tie-mask, tie-side}
