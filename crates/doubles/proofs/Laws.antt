@@ -9,3 +9,4 @@ pub mod Turns
 pub mod Finite
 pub mod Within
 pub mod Neighbours
+pub mod Entry

@@ -5,6 +5,8 @@ use lib.IntN.{ℤ, predℤ}
 use lib.Ieee.{Float}
 use Rattle.exact.specs.declared.Amount.{Amount}
 use Rattle.exact.specs.declared.Amount.the-variants.{Zero as NoAmount, Some}
+use Rattle.exact.specs.declared.Answer.{Answer as Asked}
+use Rattle.exact.specs.declared.Answer.the-variants.{Refused as NotGiven, Is as Given}
 use Rattle.doubles.specs.Power.{rootPower}
 use Rattle.doubles.specs.Parts.{plusZero, realPart, imaginaryPart, held}
 pub use Rattle.doubles.specs.declared.Doubles.{Doubles}
@@ -33,3 +35,8 @@ partsOf s p = record { number = 0; values = pairOf (held s) (p % 8) }
 unfoldable pub answerOf : Amount → Answer
 answerOf NoAmount = record { number = 0; values = plusZero ∷ [] }
 answerOf (Some s c) = partsOf (s .0) (c .0)
+
+-- a refusal's number, or the amount's answer
+unfoldable pub answerFor : Asked → Answer
+answerFor (NotGiven k) = record { number = k; values = [] }
+answerFor (Given a) = answerOf a

@@ -3,3 +3,4 @@ pub mod Steps
 pub mod Parts
 pub mod Answer
 pub mod Nearest
+pub mod Entry

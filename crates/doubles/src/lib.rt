@@ -1,7 +1,9 @@
 // An amount as two doubles: document 01's "Doubles".
 ghost use mathlib.Core.Path.{_≡_};
 ghost use Rattle.doubles.specs.Steps.{repeated, startAt, stepped, raised};
-ghost use Rattle.doubles.specs.Answer.{answer, partsOf, answerOf};
+ghost use Rattle.doubles.specs.Answer.{answer, partsOf, answerOf, answerFor};
+ghost use Rattle.doubles.specs.Entry.{DoublesAt};
+use table::Table;
 
 // An entry's value: a refusal's number, plain zero, or two doubles, the real part first.
 pub enum Doubles {
@@ -87,4 +89,21 @@ pub fn of_amount(a: exact::Amount) -> Doubles
         exact::Amount::Zero => Doubles::Zero,
         exact::Amount::Some(power, phase) => parts(power.0, phase.0),
     }
+}
+
+// An answer's value: refused by the same number, or the amount's.
+fn of_answer(a: exact::Answer) -> Doubles
+    ensures { λ r. ⌜ answer r ≡ answerFor a ⌝ }
+{
+    match a {
+        exact::Answer::Refused(number) => Doubles::Refused(number),
+        exact::Answer::Is(amount) => of_amount(amount),
+    }
+}
+
+// A table's entry at an assignment as two doubles.
+pub fn of_entry(t: Table, x: u64) -> Doubles
+    ensures { λ r. ⌜ DoublesAt t x r ⌝ }
+{
+    of_answer(t.entry(x))
 }
