@@ -4,7 +4,6 @@ use exact::Amount;
 use exact::Eighth;
 use exact::Power;
 ghost use lib.Dec.{T};
-ghost use lib.IntN.{natAbs};
 ghost use lib.Ieee.{binary64, isNan, toBits};
 ghost use mathlib.Core.Bool.{not};
 ghost use mathlib.Core.Path.{_≡_};
@@ -15,17 +14,6 @@ fn bits(x: f64) -> u64
     ensures { λ r. ⌜ r ≡ toBits binary64 x ⌝ }
 {
     f64::to_bits(x)
-}
-
-// The power without its sign.
-fn size(power: i32) -> u64
-    ensures { λ r. ⌜ r ≡ natAbs power ⌝ }
-{
-    let n = power as i64;
-    if n < 0 {
-        return (0 - n) as u64;
-    }
-    n as u64
 }
 
 // A bit pattern as 16 digits, with a space before it.
@@ -52,7 +40,7 @@ fn show(power: i32, phase: u8) {
     if power < 0 {
         io::write_all(1, b"-");
     }
-    io::print_decimal(1, size(power));
+    io::print_decimal(1, lines::size(power));
     io::write_all(1, b" ");
     io::print_decimal(1, phase as u64);
     patterns(power, phase);

@@ -48,7 +48,7 @@ pub fn put_number(area: &mut [u8], at: usize, n: u64) -> usize
 }
 
 // A signed number without its sign.
-fn size(n: i32) -> u64
+pub fn size(n: i32) -> u64
     ensures { λ r. ⌜ r ≡ natAbs n ⌝ }
 {
     if n < 0 {
