@@ -66,9 +66,6 @@ module _ (t : Table) (N : Normal t) (n : ℕ) (l : n ≤ 64) (e : t .live ≡ 2 
   body-same = body-first t n l e (λ v k. row-low v) (λ j k. tie-low j)
 
   -- ---- the packed table is the table
-  live-word : t .live < 2 ^ 64
-  live-word = N .live-range
-
   ones-is : ones (t .live) ≡ n
   ones-is = ap ones e ∙ ones-first n
 
@@ -79,7 +76,7 @@ module _ (t : Table) (N : Normal t) (n : ℕ) (l : n ≤ 64) (e : t .live ≡ 2 
   mask-same m k = ap (λ (x : ℕ). packedMask x m) e ∙ packed-first n m l k
 
   slot-none : (i : ℕ) → n ≤ i → slotAt (t .live) i ≡ 64
-  slot-none i k = slot-beyond (t .live) i live-word (omega (arith, ones-is))
+  slot-none i k = slot-beyond (t .live) i (N .live-range) (omega (arith, ones-is))
 
   turn-same : (i : ℕ) → turnAt (t .form) i ≡ turnAt (t .form) (slotAt (t .live) i)
   turn-same i =

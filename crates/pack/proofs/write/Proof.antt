@@ -1,5 +1,4 @@
 -- `write` meets its contract: refused by 12 or 13 with nothing written, or the body at the front of the part from the start on.
-use Prim.Native.Nat.{_-_}
 use native.Mathlib.Omega.{arith}
 use borrow.Author.Tests.{not-true, not-false}
 use lib.ListN.{length-drop}
