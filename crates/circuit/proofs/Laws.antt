@@ -1,0 +1,2 @@
+pub mod Is
+pub mod Alive
