@@ -4,3 +4,4 @@ pub mod Put
 pub mod Even
 pub mod Tied
 pub mod Shift
+pub mod Hadamard
