@@ -5,3 +5,5 @@ pub mod Even
 pub mod Tied
 pub mod Shift
 pub mod Hadamard
+pub mod Wires
+pub mod Gates
