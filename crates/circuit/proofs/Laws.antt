@@ -7,3 +7,6 @@ pub mod Shift
 pub mod Hadamard
 pub mod Wires
 pub mod Gates
+pub mod Kept
+pub mod Composed
+pub mod Swap
