@@ -10,3 +10,6 @@ pub mod Gates
 pub mod Kept
 pub mod Composed
 pub mod Swap
+pub mod Begin
+pub mod Spell
+pub mod Run
