@@ -13,3 +13,5 @@ pub mod Swap
 pub mod Begin
 pub mod Spell
 pub mod Run
+pub mod Number
+pub mod Amplitude
