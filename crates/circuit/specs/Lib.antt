@@ -1,0 +1,4 @@
+pub mod Bit
+pub mod Wires
+pub mod Run
+pub mod Amplitude
