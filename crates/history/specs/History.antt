@@ -42,7 +42,7 @@ FixCall t v b r = Called (Normal t) (fixNumber t v b) t (put (lives t) v 0) (aft
 pub data Reached : Table → Meaning → Type 0 where
   from-fresh : Reached freshTable freshMeaning
   from-table : (t : Table) → Normal t → Reached t (ownMeaning t)
-  new-made : {t : Table} {M : Meaning} (r : Opened) → Reached t M → NewBit t r → r .refusal ≡ accepted → Reached (r .table) (newMeaning (r .slot .0) M)
+  new-made : {t : Table} {M : Meaning} (r : Opened) → Reached t M → NewBit t r → r .refusal ≡ accepted → Reached (r .table) (newMeaning M)
   new-refused : {t : Table} {M : Meaning} (r : Opened) → Reached t M → NewBit t r → r .refusal ≢ accepted → Reached (r .table) M
   quarter-made : {t : Table} {M : Meaning} (v k : ℕ) (r : Changed) → Reached t M → QuarterCall t v k r → r .refusal ≡ accepted → Reached (r .table) (quarterMeaning v k M)
   quarter-refused : {t : Table} {M : Meaning} (v k : ℕ) (r : Changed) → Reached t M → QuarterCall t v k r → r .refusal ≢ accepted → Reached (r .table) M
@@ -57,14 +57,14 @@ pub data Reached : Table → Meaning → Type 0 where
   fix-made : {t : Table} {M : Meaning} (v b : ℕ) (r : Changed) → Reached t M → FixCall t v b r → r .refusal ≡ accepted → Reached (r .table) (fixMeaning v b M)
   fix-refused : {t : Table} {M : Meaning} (v b : ℕ) (r : Changed) → Reached t M → FixCall t v b r → r .refusal ≢ accepted → Reached (r .table) M
   -- the second table has a history of its own
-  join-made : {t s : Table} {M K : Meaning} (r : Joined) → Reached t M → Reached s K → JoinCall t s r → r .refusal ≡ accepted → Reached (r .table) (joinMeaning t s M K)
+  join-made : {t s : Table} {M K : Meaning} (r : Joined) → Reached t M → Reached s K → JoinCall t s r → r .refusal ≡ accepted → Reached (r .table) (joinMeaning M K)
   join-refused : {t s : Table} {M K : Meaning} (r : Joined) → Reached t M → Reached s K → JoinCall t s r → r .refusal ≢ accepted → Reached (r .table) M
 
 -- ---- what is so of a table that is reached
 -- it is normal, and has the live slots and the entries that its history means
 pub record Sound (t : Table) (M : Meaning) : Type 0 where
   pub normal : Normal t
-  pub live : (u : ℕ) → bit (t .live) u ≡ M .live u
+  pub live : t .live ≡ M .live
   pub entries : (x : ℕ → ℕ) → Assigns t x → Is (entry t x) (M .bias) (M .worth x)
 
 -- no trace of a slot that is not live, one lead for each tie, and never more ties than live bits nor more live bits than slots
