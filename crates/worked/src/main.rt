@@ -137,25 +137,52 @@ fn one_wire() {
     show(b"no gates: 0 to 0", circuit::amplitude(1, 0, 0, b""));
     show(b"no gates: 0 to 1", circuit::amplitude(1, 0, 1, b""));
     show(b"H: 0 to 1", circuit::amplitude(1, 0, 1, b"\x01\x00\x00"));
-    show(b"H, H: 0 to 1", circuit::amplitude(1, 0, 1, b"\x01\x00\x00\x01\x00\x00"));
-    show(b"H, S, H: 0 to 0", circuit::amplitude(1, 0, 0, b"\x01\x00\x00\x02\x00\x00\x01\x00\x00"));
+    show(
+        b"H, H: 0 to 1",
+        circuit::amplitude(1, 0, 1, b"\x01\x00\x00\x01\x00\x00"),
+    );
+    show(
+        b"H, S, H: 0 to 0",
+        circuit::amplitude(1, 0, 0, b"\x01\x00\x00\x02\x00\x00\x01\x00\x00"),
+    );
     let thrice = b"\x01\x00\x00\x02\x00\x00\x01\x00\x00\x02\x00\x00\x01\x00\x00\x02\x00\x00";
-    show(b"H, S three times: 0 to 0", circuit::amplitude(1, 0, 0, thrice));
+    show(
+        b"H, S three times: 0 to 0",
+        circuit::amplitude(1, 0, 0, thrice),
+    );
     show(b"Y: 0 to 1", circuit::amplitude(1, 0, 1, b"\x06\x00\x00"));
     show(b"Y: 1 to 0", circuit::amplitude(1, 1, 0, b"\x06\x00\x00"));
 }
 
 // A circuit for each number that refuses one.
 fn refusals() {
-    show(b"two bytes of gates", circuit::amplitude(1, 0, 0, b"\x01\x00"));
+    show(
+        b"two bytes of gates",
+        circuit::amplitude(1, 0, 0, b"\x01\x00"),
+    );
     show(b"width 0", circuit::amplitude(0, 0, 0, b""));
     show(b"width 32", circuit::amplitude(32, 0, 0, b""));
-    show(b"an input bit at the width", circuit::amplitude(1, 2, 0, b""));
-    show(b"an output bit at the width", circuit::amplitude(31, 0, 2147483648, b""));
+    show(
+        b"an input bit at the width",
+        circuit::amplitude(1, 2, 0, b""),
+    );
+    show(
+        b"an output bit at the width",
+        circuit::amplitude(31, 0, 2147483648, b""),
+    );
     show(b"code 8", circuit::amplitude(1, 0, 0, b"\x08\x00\x00"));
-    show(b"H on wire 1 of 1", circuit::amplitude(1, 0, 0, b"\x01\x01\x00"));
-    show(b"H with a second byte", circuit::amplitude(1, 0, 0, b"\x01\x00\x01"));
-    show(b"CZ on one wire twice", circuit::amplitude(2, 0, 0, b"\x10\x01\x01"));
+    show(
+        b"H on wire 1 of 1",
+        circuit::amplitude(1, 0, 0, b"\x01\x01\x00"),
+    );
+    show(
+        b"H with a second byte",
+        circuit::amplitude(1, 0, 0, b"\x01\x00\x01"),
+    );
+    show(
+        b"CZ on one wire twice",
+        circuit::amplitude(2, 0, 0, b"\x10\x01\x01"),
+    );
 }
 
 fn main() {
