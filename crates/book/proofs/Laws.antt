@@ -1,0 +1,4 @@
+pub mod Circuit
+pub mod Table
+pub mod Number
+pub mod Read
