@@ -2,3 +2,4 @@ pub mod Circuit
 pub mod Table
 pub mod Number
 pub mod Read
+pub mod Only
