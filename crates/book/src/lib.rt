@@ -73,11 +73,11 @@ fn table_body(part: &[u8], width: u8) -> Body
     ensures { λ r. ⌜ TableAnswer width (now (part .entry)) r ⌝ }
 {
     let r = body::read(part, width);
-    let k = r.refusal;
+    let fault = r.refusal;
     let t = r.table;
-    if k != 0 {
+    if fault != 0 {
         return Body {
-            said: Said::Refused(k),
+            said: Said::Refused(fault),
             table: t,
         };
     }
@@ -105,9 +105,9 @@ fn body_at(book: &[u8], j: usize) -> Body
 pub fn test(book: &[u8]) -> u8
     ensures { λ r. ⌜ BookNumber (now (book .entry)) r ⌝ }
 {
-    let number = contents::test(book);
-    if number != 0 {
-        return number;
+    let front = contents::test(book);
+    if front != 0 {
+        return front;
     }
     let n = contents::count(book);
     let mut j = 0usize;

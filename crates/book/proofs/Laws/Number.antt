@@ -8,9 +8,9 @@ use lib.ListN.{length, take, drop}
 use Rattle.exact.proofs.Laws.Sum.{split}
 use Rattle.bits.proofs.Laws.Bit.{same-or}
 use Rattle.contents.specs.declared.Entry.{Entry}
-use Rattle.contents.specs.Contents.{countOf, kindOf, widthOf, lengthOf, startOf, entryOf, contentsNumber}
+use Rattle.contents.specs.Contents.{countOf, kindOf, widthOf, entryOf, contentsNumber}
 use Rattle.contents.proofs.Laws.Good.{good}
-use Rattle.book.specs.Book.{bodyBytes, circuitBodyNumber, BodyNumber, Clear, Refuses, BookNumber}
+use Rattle.book.specs.Book.{bodyBytes, circuitBodyNumber, BodyNumber, Clear, BookNumber}
 use Rattle.book.specs.Read.{Body, saidNumber, CircuitAnswer, TableAnswer, BodyAnswer}
 
 -- ---- the part of the book that is lent

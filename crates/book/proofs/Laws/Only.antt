@@ -3,7 +3,7 @@ use mathlib.Core.Bool.{Bool, true, false}
 use mathlib.Core.List.{List}
 use mathlib.Core.Logic.{_≢_, _⊎_, inl, inr, ⊎-elim}
 use mathlib.Core.Path.{_≡_, refl, sym, ap, _∙_, subst}
-use Prim.Native.Nat.{ℕ, _≤_, _<_}
+use Prim.Native.Nat.{ℕ, _<_}
 use native.Mathlib.Omega.{arith}
 use Rattle.exact.specs.declared.Answer.the-variants.{Is}
 use Rattle.exact.specs.Answer.{amountOf}
@@ -11,11 +11,11 @@ use Rattle.exact.proofs.Laws.Sum.{split}
 use Rattle.bits.proofs.Laws.Bit.{same-or}
 use Rattle.table.specs.Normal.{Normal}
 use Rattle.circuit.proofs.Laws.Amplitude.{no-second}
-use Rattle.contents.specs.Contents.{countOf, kindOf, widthOf, entryOf, contentsNumber}
+use Rattle.contents.specs.Contents.{countOf, widthOf, entryOf, contentsNumber}
 use Rattle.contents.proofs.Laws.Good.{good}
 use Rattle.body.specs.Body.{bodyFault, tableOf}
 use Rattle.book.specs.Book.{inputOf, outputOf, gatesOf, bodyBytes, circuitBodyNumber, TableNumber, BodyNumber, Clear, Refuses, BodiesNumber, BookNumber}
-use Rattle.book.specs.Read.{Body, saidNumber, saidAmount, refusal, amplitude, CircuitAnswer, TableAnswer, BodyAnswer, ReadsBody}
+use Rattle.book.specs.Read.{Body, saidNumber, saidAmount, refusal, amplitude, CircuitAnswer, TableAnswer, ReadsBody}
 use Rattle.book.proofs.Laws.Number.{contents-good}
 
 -- ---- a table's body

@@ -1,7 +1,7 @@
 -- What a table's body answers on each way through the code: from the reading of its bytes.
 use mathlib.Core.List.{List}
 use mathlib.Core.Logic.{_≢_}
-use mathlib.Core.Path.{_≡_, sym, ap, _∙_}
+use mathlib.Core.Path.{_≡_, ap}
 use Prim.Native.Nat.{ℕ}
 use native.Mathlib.Omega.{arith}
 use Rattle.body.specs.declared.Reading.{Reading}

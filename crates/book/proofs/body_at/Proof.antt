@@ -1,6 +1,5 @@
 -- `body_at` meets its contract: good contents keep the part within the book, and the entry says its kind.
 use borrow.Author.Needs.{needs}
-use mathlib.Core.Path.{ap, _∙_, sym}
 use native.Mathlib.Omega.{arith}
 use Rattle.book.proofs.Laws.Number.{entry-within, answer-circuit, answer-table, answer-at}
 use Rattle.book.proofs.body_at.Statement.{statement}

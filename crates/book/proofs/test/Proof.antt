@@ -1,19 +1,18 @@
 -- `test` meets its contract: the invariant says that no body below j is refused.
 use borrow.Author.Needs.{needs}
-use mathlib.Core.Path.{_≡_, sym, subst, _∙_}
+use mathlib.Core.Path.{sym, _∙_}
 use Prim.Native.Nat.{_≤_, _-_}
 use native.Mathlib.Omega.{arith}
-use Rattle.contents.specs.Contents.{contentsNumber}
-use Rattle.book.specs.Book.{Clear, BodyNumber}
+use Rattle.book.specs.Book.{Clear}
 use Rattle.book.proofs.Laws.Number.{answer-number, clear-none, clear-next, book-contents, book-refused, book-clear}
 use Rattle.book.proofs.test.Statement.{statement}
 use Rattle.book.proofs.test.Tie as tie
 
 abbrev Inv-loop : tie.InvT-loop
-Inv-loop book number n j₀ j = (j ≤ n) × Clear book j
+Inv-loop book front n j₀ j = (j ≤ n) × Clear book j
 
 abbrev μ-loop : tie.MeasureT-loop
-μ-loop book number n j₀ j = n - j
+μ-loop book front n j₀ j = n - j
 
 test-requires : tie.Need-test-requires Inv-loop μ-loop
 test-requires c κs = search needs
