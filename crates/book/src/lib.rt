@@ -110,15 +110,17 @@ pub fn test(book: &[u8]) -> u8
         return front;
     }
     let n = contents::count(book);
-    let mut j = 0usize;
-    while j < n {
+    // how many bodies are left to test
+    let mut left = n;
+    while left > 0 {
+        let j = n - left;
         let b = body_at(book, j);
         let s = b.said;
         let k = said_number(s);
         if k != 0 {
             return k;
         }
-        j += 1;
+        left -= 1;
     }
     0
 }
