@@ -1,0 +1,5 @@
+pub mod Circuit
+pub mod Table
+pub mod Number
+pub mod Read
+pub mod Only

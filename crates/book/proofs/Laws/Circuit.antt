@@ -1,0 +1,64 @@
+-- What a circuit's body answers on each way through the code: too short, or what the amplitude of its circuit answers.
+use mathlib.Core.List.{List}
+use mathlib.Core.Path.{_≡_, refl, sym, ap, ap₂, _∙_, subst}
+use Prim.Native.Nat.{ℕ, _-_, _≤_, _<_}
+use native.Mathlib.Omega.{arith}
+use lib.ListN.{length, take, drop}
+use borrow.Author.Tests.{lt-ltb, le-ltb}
+use Rattle.exact.specs.declared.Answer.{Answer}
+use Rattle.exact.specs.declared.Answer.the-variants.{Refused as NotGiven, Is}
+use Rattle.fields.proofs.Laws.Front.{lent-part}
+use Rattle.gates.specs.Circuit.{circuitNumber}
+use Rattle.table.specs.Entry.{freshTable}
+use Rattle.table.specs.declared.Table.{Table}
+use Rattle.circuit.specs.Amplitude.{Amplitude}
+use Rattle.book.specs.Book.{inputOf, outputOf, gatesOf, circuitBodyNumber}
+use Rattle.book.specs.Read.{Said, Body, body, refusal, saidOf, CircuitAnswer}
+
+-- a refusal is no amount
+given : Answer → ℕ
+given (NotGiven k) = 0
+given (Is a) = 1
+
+module _ (n : ℕ) (bs : List ℕ) where
+  short-number : length bs < 8 → circuitBodyNumber n bs ≡ 11
+  unfolding circuitBodyNumber
+  short-number h = rw (lt-ltb (length bs) 8 h)
+
+  long-number : 8 ≤ length bs → circuitBodyNumber n bs ≡ circuitNumber n (inputOf bs) (outputOf bs) (gatesOf bs)
+  unfolding circuitBodyNumber
+  long-number h = rw (le-ltb (length bs) 8 h)
+
+  pub circuit-short : (r : Body) → length bs < 8 → r ≡ refusal 11 → CircuitAnswer n bs r
+  circuit-short r h e = record {
+    refused = λ ne. e ∙ ap refusal (sym (short-number h));
+    given = λ z. absurd (omega (arith, z, short-number h));
+    value = λ z. absurd (omega (arith, z, short-number h));
+  }
+
+  module _ (h : 8 ≤ length bs) where
+    of-answer : (a : Answer) → Amplitude n (inputOf bs) (outputOf bs) (gatesOf bs) a → CircuitAnswer n bs (body (saidOf a) freshTable)
+    unfolding given
+    of-answer (NotGiven k) A = record {
+      refused = λ ne. ap refusal (A .number ∙ sym (long-number h));
+      given = λ z. absurd (none z);
+      value = λ z. absurd (none z);
+    }
+      where
+        none : circuitBodyNumber n bs ≡ 0 → ⊥
+        none z =
+            let f : _≡_ {A = ℕ} 0 1 = ap given (A .answered (sym (long-number h) ∙ z)) in
+            omega (arith, f)
+    of-answer (Is a) A = record {
+      refused = λ ne. absurd (ne (long-number h ∙ sym (A .number)));
+      given = λ z. refl;
+      value = λ z. A;
+    }
+
+    -- the circuit that the code was handed: two numbers read, and the part behind them
+    pub circuit-law : (a : Answer) (s : Said) (t : Table) (i o : ℕ) → Amplitude n i o (take (length bs - 8) (drop 8 bs)) a → i ≡ inputOf bs → o ≡ outputOf bs → s ≡ saidOf a → t ≡ freshTable → CircuitAnswer n bs (body s t)
+    circuit-law a s t i o A p q e f =
+        let B = subst (λ (v : ℕ). Amplitude n v o (take (length bs - 8) (drop 8 bs)) a) p A in
+        let C = subst (λ (v : ℕ). Amplitude n (inputOf bs) v (take (length bs - 8) (drop 8 bs)) a) q B in
+        let D = subst (λ (l : List ℕ). Amplitude n (inputOf bs) (outputOf bs) l a) (lent-part bs 8) C in
+        subst (CircuitAnswer n bs) (sym (ap₂ body e f)) (of-answer a D)

@@ -1,0 +1,85 @@
+-- The number of a body that answered, and of the book on each way through the code.
+use mathlib.Core.List.{List}
+use mathlib.Core.Logic.{_≢_, inl, inr, ⊎-elim}
+use mathlib.Core.Path.{_≡_, refl, sym, ap, _∙_, subst}
+use Prim.Native.Nat.{ℕ, _+_, _-_, _≤_, _<_}
+use native.Mathlib.Omega.{arith}
+use lib.ListN.{length, take, drop}
+use Rattle.exact.proofs.Laws.Sum.{split}
+use Rattle.bits.proofs.Laws.Bit.{same-or}
+use Rattle.contents.specs.declared.Entry.{Entry}
+use Rattle.contents.specs.Contents.{countOf, kindOf, widthOf, entryOf, contentsNumber}
+use Rattle.contents.proofs.Laws.Good.{good}
+use Rattle.book.specs.Book.{bodyBytes, circuitBodyNumber, BodyNumber, Clear, BookNumber}
+use Rattle.book.specs.Read.{Body, saidNumber, CircuitAnswer, TableAnswer, BodyAnswer}
+
+-- ---- the part of the book that is lent
+pub part-law : (bs : List ℕ) (j : ℕ) (e : Entry) → e ≡ entryOf bs j → take (e .start + e .length - e .start) (drop (e .start) bs) ≡ bodyBytes bs j
+unfolding bodyBytes
+part-law bs j e is =
+    let q : e .start + e .length - e .start ≡ e .length = omega arith in
+    ap (λ (k : ℕ). take k (drop (e .start) bs)) q ∙ ap (λ (x : Entry). take (x .length) (drop (x .start) bs)) is
+
+-- ---- a body by its kind
+pub answer-circuit : (kind n : ℕ) (bs : List ℕ) (r : Body) → kind ≡ 1 → CircuitAnswer n bs r → BodyAnswer kind n bs r
+answer-circuit kind n bs r k a = record { circuit = λ q. a; table = λ q. absurd (omega (arith, k, q)) }
+
+pub answer-table : (kind n : ℕ) (bs : List ℕ) (r : Body) → kind ≢ 1 → TableAnswer n bs r → BodyAnswer kind n bs r
+answer-table kind n bs r k a = record { circuit = λ q. absurd (k q); table = λ q. a }
+
+-- the answer to the part of an entry, as the book's
+pub answer-at : (bs : List ℕ) (j : ℕ) (e : Entry) (r : Body) → e ≡ entryOf bs j → BodyAnswer (e .kind) (e .width) (take (e .start + e .length - e .start) (drop (e .start) bs)) r
+    → BodyAnswer (kindOf bs j) (widthOf bs j) (bodyBytes bs j) r
+answer-at bs j e r is a =
+    subst (λ (x : Entry). BodyAnswer (x .kind) (x .width) (bodyBytes bs j) r) is
+    (subst (λ (l : List ℕ). BodyAnswer (e .kind) (e .width) l r) (part-law bs j e is) a)
+
+-- ---- the number of a body
+num : Body → ℕ
+num r = saidNumber (r .said)
+
+pub answer-number : (bs : List ℕ) (j : ℕ) (r : Body) → BodyAnswer (kindOf bs j) (widthOf bs j) (bodyBytes bs j) r → (k : ℕ) → k ≡ saidNumber (r .said) → BodyNumber bs j k
+unfolding num
+answer-number bs j r a k is = subst (BodyNumber bs j) (sym is) (record {
+  circuit = λ c. by (a .circuit c);
+  table = λ c. record {
+    fault = λ f. ap num (a .table c .fault f);
+    broken = λ f m. ap num (a .table c .broken f m);
+    sound = λ f m. ap num (a .table c .sound f m);
+    normal = a .table c .normal;
+  };
+})
+  where
+    by : CircuitAnswer (widthOf bs j) (bodyBytes bs j) r → saidNumber (r .said) ≡ circuitBodyNumber (widthOf bs j) (bodyBytes bs j)
+    by A = ⊎-elim (λ z. ap num (A .given z) ∙ sym z) (λ ne. ap num (A .refused ne)) (same-or (circuitBodyNumber (widthOf bs j) (bodyBytes bs j)) 0)
+
+-- ---- the number of the book
+module _ (bs : List ℕ) where
+  pub clear-none : Clear bs 0
+  clear-none i h = absurd (omega (arith, h))
+
+  pub clear-next : (j : ℕ) → Clear bs j → BodyNumber bs j 0 → Clear bs (j + 1)
+  clear-next j C b i h = ⊎-elim (λ l. C i l) (λ l. let q : j ≡ i = omega (arith, l, h) in subst (λ (v : ℕ). BodyNumber bs v 0) q b) (split i j)
+
+  pub book-contents : (k : ℕ) → k ≡ contentsNumber bs → k ≢ 0 → BookNumber bs k
+  book-contents k e ne = record { contents = λ h. e; bodies = λ z. absurd (ne (e ∙ z)) }
+
+  pub book-refused : (j k : ℕ) → contentsNumber bs ≡ 0 → j < countOf bs → Clear bs j → BodyNumber bs j k → k ≢ 0 → BookNumber bs k
+  book-refused j k z h C b ne = record {
+    contents = λ f. absurd (f z);
+    bodies = λ f. inr (record { at = j; below = h; before = C; here = b; refused = ne });
+  }
+
+  pub book-clear : (j : ℕ) → contentsNumber bs ≡ 0 → countOf bs ≤ j → Clear bs j → BookNumber bs 0
+  book-clear j z h C = record {
+    contents = λ f. absurd (f z);
+    bodies = λ f. inl (refl, λ i l. C i (omega (arith, h, l)));
+  }
+
+  -- a good book has good contents
+  pub contents-good : (k : ℕ) → BookNumber bs k → k ≡ 0 → contentsNumber bs ≡ 0
+  contents-good k B z = ⊎-elim (λ e. e) (λ ne. sym (B .contents ne) ∙ z) (same-or (contentsNumber bs) 0)
+
+  -- a body of good contents lies within the book
+  pub entry-within : (j : ℕ) (e : Entry) → contentsNumber bs ≡ 0 → j < countOf bs → e ≡ entryOf bs j → (e .start + e .length ≤ length bs) × (length bs ≤ 60000)
+  entry-within j e z h is = (good bs z .body j h e is .within, good bs z .short)

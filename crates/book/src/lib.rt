@@ -1,0 +1,140 @@
+// A whole book tested, and its bodies read.
+ghost use mathlib.Core.Path.{_≡_};
+ghost use Prim.Native.Nat.{_<_};
+ghost use Rattle.contents.specs.Contents.{countOf, kindOf, widthOf, contentsNumber};
+ghost use Rattle.book.specs.Book.{bodyBytes, BookNumber};
+ghost use Rattle.book.specs.Read.{saidNumber, saidOf, refusal, CircuitAnswer, TableAnswer, BodyAnswer, ReadsBody};
+use exact::Amount;
+use exact::Answer;
+use table::Table;
+
+// What reading a body says: a refusal's number, a circuit's amplitude, or that the table stands beside it.
+pub enum Said {
+    Refused(u8),
+    Circuit(Amount),
+    Whole,
+}
+
+// What reading a body answers; the table is the fresh one unless it was read.
+pub struct Body {
+    pub said: Said,
+    pub table: Table,
+}
+
+// The number that refused, 0 for none.
+fn said_number(s: Said) -> u8
+    ensures { λ r. ⌜ r ≡ saidNumber s ⌝ }
+{
+    match s {
+        Said::Refused(k) => k,
+        Said::Circuit(_) => 0,
+        Said::Whole => 0,
+    }
+}
+
+// A circuit's answer, as it is said of a body.
+fn said_of(a: Answer) -> Said
+    ensures { λ r. ⌜ r ≡ saidOf a ⌝ }
+{
+    match a {
+        Answer::Refused(k) => Said::Refused(k),
+        Answer::Is(m) => Said::Circuit(m),
+    }
+}
+
+// A refusal: its number, and the fresh table.
+fn refused(k: u8) -> Body
+    ensures { λ r. ⌜ r ≡ refusal k ⌝ }
+{
+    Body {
+        said: Said::Refused(k),
+        table: Table::fresh(),
+    }
+}
+
+// What a circuit's body of this width answers.
+fn circuit_body(part: &[u8], width: u8) -> Body
+    ensures { λ r. ⌜ CircuitAnswer width (now (part .entry)) r ⌝ }
+{
+    if part.len() < 8 {
+        return refused(11);
+    }
+    let input = fields::read_u32(part, 0);
+    let output = fields::read_u32(part, 4);
+    let a = circuit::amplitude(width, input, output, &part[8..]);
+    Body {
+        said: said_of(a),
+        table: Table::fresh(),
+    }
+}
+
+// What a table's body of this width answers.
+fn table_body(part: &[u8], width: u8) -> Body
+    ensures { λ r. ⌜ TableAnswer width (now (part .entry)) r ⌝ }
+{
+    let r = body::read(part, width);
+    let fault = r.refusal;
+    let t = r.table;
+    if fault != 0 {
+        return Body {
+            said: Said::Refused(fault),
+            table: t,
+        };
+    }
+    Body {
+        said: Said::Whole,
+        table: t,
+    }
+}
+
+// What body j of a book with good contents answers.
+fn body_at(book: &[u8], j: usize) -> Body
+    requires { ⌜ (contentsNumber (now book) ≡ 0) × (j < countOf (now book)) ⌝ }
+    ensures { λ r. ⌜ BodyAnswer (kindOf (now (book .entry)) j) (widthOf (now (book .entry)) j) (bodyBytes (now (book .entry)) j) r ⌝ }
+{
+    let e = contents::entry_at(book, j);
+    let from = e.start;
+    let to = from + e.length;
+    if e.kind == 1 {
+        return circuit_body(&book[from..to], e.width);
+    }
+    table_body(&book[from..to], e.width)
+}
+
+// The number that refuses a book: header, contents, then bodies in order; 0 where it is good.
+pub fn test(book: &[u8]) -> u8
+    ensures { λ r. ⌜ BookNumber (now (book .entry)) r ⌝ }
+{
+    let front = contents::test(book);
+    if front != 0 {
+        return front;
+    }
+    let n = contents::count(book);
+    // how many bodies are left to test
+    let mut left = n;
+    while left > 0 {
+        let j = n - left;
+        let b = body_at(book, j);
+        let s = b.said;
+        let k = said_number(s);
+        if k != 0 {
+            return k;
+        }
+        left -= 1;
+    }
+    0
+}
+
+// Body j of a book: refused by the book's number, then by 14 where there is no such body.
+pub fn read(book: &[u8], j: usize) -> Body
+    ensures { λ r. ⌜ ReadsBody (now (book .entry)) j r ⌝ }
+{
+    let number = test(book);
+    if number != 0 {
+        return refused(number);
+    }
+    if j >= contents::count(book) {
+        return refused(14);
+    }
+    body_at(book, j)
+}
