@@ -10,20 +10,18 @@ use tally::Tally;
 use value::Value;
 ghost use Prim.Native.Nat.{_≤_};
 
-// How many circuits of each width.
-const CIRCUITS: u64 = 26;
+// How many circuits of each width: four of each length.
+const CIRCUITS: u64 = 104;
 
-// How many gates circuit `number` has: 0, 1, .., 10, then 20, 40, .., 300.
+// How many gates circuit `number` has: 0, 1, .., 10, then 20, 40, .., 300, and so on again.
 fn length(number: u64) -> usize
     ensures { λ r. ⌜ r ≤ 300 ⌝ }
 {
-    if number <= 10 {
-        return number as usize;
+    let n = number % 26;
+    if n <= 10 {
+        return n as usize;
     }
-    if number <= 25 {
-        return (20 * (number - 10)) as usize;
-    }
-    300
+    (20 * (n - 10)) as usize
 }
 
 // The number of factors 1/√2 in the gates.
@@ -102,7 +100,7 @@ fn run(width: u8) -> Tally {
     t
 }
 
-// The widths 1 to 6, and all together: 26 · 126 = 3276 amplitudes.
+// The widths 1 to 6, and all together: 104 · 126 = 13104 amplitudes.
 fn main() {
     let small = run(1).plus(run(2)).plus(run(3));
     let all = small.plus(run(4)).plus(run(5)).plus(run(6));
