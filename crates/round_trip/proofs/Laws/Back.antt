@@ -1,0 +1,59 @@
+-- "A table written to a book reads back with the same entries": a normal table, written and read, is the table with its live bits renumbered in rising order.
+use mathlib.Core.Bool.{cond}
+use mathlib.Core.List.{List}
+use mathlib.Core.Path.{_≡_, refl, sym, ap, subst, _∙_}
+use Prim.Native.Nat.{ℕ, _+_, _-_, _*_, _^_, _≤_, _<_}
+use native.Mathlib.Omega.{arith}
+use lib.Count.{ones}
+use lib.ListN.{length}
+use Rattle.exact.specs.Refusal.{accepted}
+use Rattle.table.specs.declared.Table.{Table}
+use Rattle.table.specs.Entry.{entry, turn, row, tie, side, ties}
+use Rattle.table.specs.Normal.{Normal}
+use Rattle.canon.proofs.Laws.Spread.{ties-fit}
+use Rattle.pack.specs.Packed.{packedTies, packedTable, unpacked}
+use Rattle.pack.specs.Body.{plainBytes, bodyBytes}
+use Rattle.pack.proofs.Laws.Read.{ones-small}
+use Rattle.pack.proofs.Laws.Bytes.{length-fields}
+use Rattle.pack.proofs.Laws.Body.{body-plain}
+use Rattle.pack.proofs.Laws.Normal.{packed-normal}
+use Rattle.pack.proofs.Laws.Entry.{packed-entry}
+use Rattle.body.specs.declared.Reading.{Reading}
+use Rattle.body.specs.Read.{reading, Reads}
+use Rattle.body.proofs.Laws.Stated.{States, stated-read}
+use Rattle.round_trip.proofs.Laws.Written.{mark-is, phase-is, power-is, turn-is, row-is, count-is, tie-is, side-is}
+
+-- the bytes of a table whose live slots are 0..n−1 state it
+pub states : (n : ℕ) (t : Table) → Normal t → t .live ≡ 2 ^ n - 1 → States n (plainBytes n t) t
+unfolding plainBytes
+states n t N e = record {
+  size = length-fields (t .zero) (t .form .phase .0) (t .power .0) n (turn t) (row t) (ties t) (tie t) (side t);
+  live = e;
+  zero = sym (mark-is (t .zero) (t .form .phase .0) (t .power .0) n (turn t) (row t) (ties t) (tie t) (side t));
+  power = power-is (t .zero) (t .form .phase .0) (t .power .0) n (turn t) (row t) (ties t) (tie t) (side t) (N .power-range);
+  phase = phase-is (t .zero) (t .form .phase .0) (t .power .0) n (turn t) (row t) (ties t) (tie t) (side t);
+  turn = turn-is (t .zero) (t .form .phase .0) (t .power .0) n (turn t) (row t) (ties t) (tie t) (side t);
+  row = λ v l. row-is (t .zero) (t .form .phase .0) (t .power .0) n (turn t) (row t) (ties t) (tie t) (side t) v l (N .proper .row-range v);
+  count = count-is (t .zero) (t .form .phase .0) (t .power .0) n (turn t) (row t) (ties t) (tie t) (side t);
+  tie = λ j l. tie-is (t .zero) (t .form .phase .0) (t .power .0) n (turn t) (row t) (ties t) (tie t) (side t) j l (N .reduced .mask-range j);
+  side = side-is (t .zero) (t .form .phase .0) (t .power .0) n (turn t) (row t) (ties t) (tie t) (side t);
+}
+
+-- a written table reads back
+pub read-back : (t : Table) → Normal t → (r : Reading) → Reads (ones (t .live)) (bodyBytes t) r → r ≡ reading accepted (packedTable t)
+unfolding packedTable packedTies
+read-back t N r w =
+    stated-read (ones (t .live)) (bodyBytes t) (packedTable t) (packed-normal t N) stated few (ties-fit t N) r w
+  where
+    few : ones (t .live) ≤ 64
+    few = ones-small (t .live) (N .live-range)
+
+    stated : States (ones (t .live)) (bodyBytes t) (packedTable t)
+    stated =
+        subst (λ (bs : List ℕ). States (ones (t .live)) bs (packedTable t)) (body-plain t (N .live-range) (N .reduced .masks-are))
+        (states (ones (t .live)) (packedTable t) (packed-normal t N) refl)
+
+-- and what is read has the same entries, bit i of the new table being the live bit with i live bits below it
+pub same-values : (t : Table) → Normal t → (r : Reading) → Reads (ones (t .live)) (bodyBytes t) r → (y : ℕ → ℕ)
+    → entry (r .table) y ≡ entry t (unpacked (t .live) y)
+same-values t N r w y = ap (λ (q : Reading). entry (q .table) y) (read-back t N r w) ∙ packed-entry t N y

@@ -1,0 +1,1 @@
+// A table written and read back, and a body read and written back. Theorems only.
