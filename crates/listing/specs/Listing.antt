@@ -1,0 +1,43 @@
+-- The listing of a book as text: the count, a line for each body; or the single line of a refused book.
+use mathlib.Core.Bool.{cond}
+use mathlib.Core.List.{List, [], _++_}
+use mathlib.Core.Logic.{_≢_}
+use mathlib.Core.Path.{_≡_}
+use Prim.Native.Nat.{ℕ, zero, suc, _<_}
+use lib.Count.{ones}
+use Rattle.exact.specs.Refusal.{accepted}
+use Rattle.exact.specs.declared.Amount.{Amount}
+use Rattle.exact.specs.Amount.{none, some}
+use Rattle.table.specs.declared.Table.{Table}
+use Rattle.table.specs.Entry.{ties}
+use Rattle.contents.specs.Contents.{countOf}
+use Rattle.lines.specs.Lines.{bookLine, circuitLine, tableLine, refusedLine}
+use Rattle.book.specs.declared.Said.{Said}
+use Rattle.book.specs.declared.Said.the-variants.{Refused, Circuit, Whole}
+use Rattle.book.specs.declared.Body.{Body}
+use Rattle.book.specs.Book.{BookNumber}
+use Rattle.book.specs.Read.{ReadsBody}
+
+-- a table's power and phase, or zero
+abbrev pub tableAmount : Table → Amount
+tableAmount t = cond (t .zero) none (some (t .power .0) (t .form .phase .0))
+
+-- "for each body: number, `C`, power, phase; or number, `T`, live, ties, power, phase"
+unfoldable pub bodyLine : ℕ → Said → Table → List ℕ
+bodyLine j (Refused k) t = []
+bodyLine j (Circuit a) t = circuitLine j a
+bodyLine j Whole t = tableLine j (ones (t .live)) (ties t) (tableAmount t)
+
+-- the lines of the first n bodies
+unfoldable pub bodyLines : ℕ → (ℕ → Body) → List ℕ
+bodyLines zero f = []
+bodyLines (suc n) f = bodyLines n f ++ bodyLine n (f n .said) (f n .table)
+
+-- "First line `book` and the count. Then for each body .. A refused book gives the single line `refused` and the number."
+pub record Listing (bs text : List ℕ) : Type 0 where
+  pub number : ℕ
+  pub tested : BookNumber bs number
+  pub bodies : ℕ → Body
+  pub read : (j : ℕ) → j < countOf bs → ReadsBody bs j (bodies j)
+  pub refused : number ≢ accepted → text ≡ refusedLine number
+  pub listed : number ≡ accepted → text ≡ bookLine (countOf bs) ++ bodyLines (countOf bs) bodies

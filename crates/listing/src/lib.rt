@@ -1,0 +1,1 @@
+// The listing of a book: what its text is.
