@@ -87,8 +87,8 @@ fn table_body(part: &[u8], width: u8) -> Body
     }
 }
 
-// What body j of a book with good contents answers.
-fn body_at(book: &[u8], j: usize) -> Body
+// What body j of a book with good contents answers: for a caller that has tested the book and would not test it again.
+pub fn body_at(book: &[u8], j: usize) -> Body
     requires { ⌜ (contentsNumber (now book) ≡ 0) × (j < countOf (now book)) ⌝ }
     ensures { λ r. ⌜ BodyAnswer (kindOf (now (book .entry)) j) (widthOf (now (book .entry)) j) (bodyBytes (now (book .entry)) j) r ⌝ }
 {

@@ -11,6 +11,7 @@ use Rattle.exact.specs.Amount.{none, some}
 use Rattle.table.specs.declared.Table.{Table}
 use Rattle.table.specs.Entry.{ties}
 use Rattle.contents.specs.Contents.{countOf}
+use Rattle.lines.specs.Overlay.{Laid}
 use Rattle.lines.specs.Lines.{bookLine, circuitLine, tableLine, refusedLine}
 use Rattle.book.specs.declared.Said.{Said}
 use Rattle.book.specs.declared.Said.the-variants.{Refused, Circuit, Whole}
@@ -41,3 +42,9 @@ pub record Listing (bs text : List ℕ) : Type 0 where
   pub read : (j : ℕ) → j < countOf bs → ReadsBody bs j (bodies j)
   pub refused : number ≢ accepted → text ≡ refusedLine number
   pub listed : number ≡ accepted → text ≡ bookLine (countOf bs) ++ bodyLines (countOf bs) bodies
+
+-- the listing of a book, written at the front of an area xs that is now ys; r is its length
+pub record Listed (bs xs ys : List ℕ) (r : ℕ) : Type 0 where
+  pub text : List ℕ
+  pub listing : Listing bs text
+  pub laid : Laid xs 0 text ys r

@@ -1,0 +1,2 @@
+pub mod Sofar
+pub mod Only

@@ -1,0 +1,31 @@
+-- No second listing: of the text, and of what stands in the area and is answered. By the same of the book's number and of each body.
+use mathlib.Core.List.{List, _++_}
+use mathlib.Core.Logic.{_≢_, ⊎-elim}
+use mathlib.Core.Path.{_≡_, refl, sym, ap, _∙_, subst}
+use Prim.Native.Nat.{ℕ}
+use Rattle.bits.proofs.Laws.Bit.{same-or}
+use Rattle.contents.specs.Contents.{countOf}
+use Rattle.lines.specs.Overlay.{Laid}
+use Rattle.lines.specs.Lines.{bookLine, refusedLine}
+use Rattle.lines.proofs.Laws.Laid.{laid-text, no-second}
+use Rattle.book.proofs.Laws.Only.{one-number, one-body}
+use Rattle.listing.specs.Listing.{bodyLines, Listing, Listed}
+use Rattle.listing.proofs.Laws.Sofar.{lines-same}
+
+module _ (bs text more : List ℕ) (L : Listing bs text) (M : Listing bs more) where
+  same : L .number ≡ M .number
+  same = one-number bs (L .number) (M .number) (L .tested) (M .tested)
+
+  bodies : bodyLines (countOf bs) (L .bodies) ≡ bodyLines (countOf bs) (M .bodies)
+  bodies = lines-same (countOf bs) (L .bodies) (M .bodies) (λ j h. one-body bs j (L .bodies j) (M .bodies j) (L .read j h) (M .read j h))
+
+  pub one-text : text ≡ more
+  one-text =
+      ⊎-elim
+      (λ (z : L .number ≡ 0). L .listed z ∙ ap (λ (l : List ℕ). bookLine (countOf bs) ++ l) bodies ∙ sym (M .listed (sym same ∙ z)))
+      (λ (ne : L .number ≢ 0). L .refused ne ∙ ap refusedLine same ∙ sym (M .refused (λ z. ne (same ∙ z))))
+      (same-or (L .number) 0)
+
+pub one-listing : (bs xs ys zs : List ℕ) (p q : ℕ) → Listed bs xs ys p → Listed bs xs zs q → (ys ≡ zs) × (p ≡ q)
+one-listing bs xs ys zs p q L M =
+    no-second (laid-text (one-text bs (L .text) (M .text) (L .listing) (M .listing)) (L .laid)) (M .laid)

@@ -1,0 +1,122 @@
+-- The listing of a book grows by a line for each body: what is written so far, from the first line to the whole text. By the laws of writers one after the other.
+use mathlib.Core.Bool.{cond}
+use mathlib.Core.List.{List, _++_}
+use mathlib.Core.Logic.{_≢_, ⊎-elim}
+use mathlib.Core.Path.{_≡_, refl, sym, ap, ap₂, _∙_, subst}
+use Prim.Native.Nat.{ℕ, zero, suc, _+_, _≤_, _<_}
+use native.Mathlib.Omega.{arith}
+use native.Mathlib.Numerals.{add-one}
+use borrow.Author.Tests.{eq-eqb, ne-eqb}
+use lib.Dec.{eqb}
+use lib.ListN.{length}
+use Rattle.exact.proofs.Laws.Sum.{split}
+use Rattle.contents.specs.Contents.{countOf}
+use Rattle.lines.specs.Overlay.{top, Laid}
+use Rattle.lines.specs.Lines.{bookLine, refusedLine}
+use Rattle.lines.proofs.Laws.Laid.{laid-none, laid-length, laid-more, laid-text}
+use Rattle.book.specs.Book.{BookNumber}
+use Rattle.book.specs.declared.Body.{Body}
+use Rattle.book.specs.Read.{refusal, ReadsBody}
+use Rattle.contents.proofs.Laws.Good.{good}
+use Rattle.book.proofs.Laws.Number.{contents-good}
+use Rattle.book.proofs.Laws.Read.{reads-refused}
+use Rattle.listing.specs.Listing.{bodyLine, bodyLines, Listing, Listed}
+
+-- a good book has at most 16 bodies
+pub few : (bs : List ℕ) (k n : ℕ) → BookNumber bs k → k ≡ 0 → n ≡ countOf bs → n ≤ 16
+few bs k n B z e = omega (arith, e, good bs (contents-good bs k B z) .count)
+
+-- a writer leaves the area as short as it was
+pub narrow : {xs text ys : List ℕ} {at r : ℕ} → Laid xs at text ys r → length xs ≤ top → length ys ≤ top
+narrow l h = omega (arith, laid-length l, h)
+
+-- the lines of the first j bodies are written, from a place on
+pub record Sofar (bs xs : List ℕ) (p j : ℕ) (ys : List ℕ) (at : ℕ) : Type 0 where
+  pub bodies : ℕ → Body
+  pub read : (i : ℕ) → i < j → ReadsBody bs i (bodies i)
+  pub laid : Laid xs p (bodyLines j bodies) ys at
+
+-- the lines hang on the first n bodies alone
+pub lines-same : (n : ℕ) (f g : ℕ → Body) → ((i : ℕ) → i < n → f i ≡ g i) → bodyLines n f ≡ bodyLines n g
+unfolding bodyLines
+lines-same zero f g h = refl
+lines-same (suc n) f g h =
+    ap₂ (λ (a b : List ℕ). a ++ b) (lines-same n f g (λ i l. h i (omega (arith, l)))) (ap (λ (b : Body). bodyLine n (b .said) (b .table)) (h n (omega arith)))
+
+-- f with b at j
+with : (ℕ → Body) → ℕ → Body → ℕ → Body
+with f j b i = cond (eqb i j) b (f i)
+
+with-here : (f : ℕ → Body) (j : ℕ) (b : Body) → with f j b j ≡ b
+unfolding with
+with-here f j b = rw (eq-eqb j j refl)
+
+with-else : (f : ℕ → Body) (j : ℕ) (b : Body) (i : ℕ) → i < j → with f j b i ≡ f i
+unfolding with
+with-else f j b i h = rw (ne-eqb i j (λ e. omega (arith, h, e)))
+
+module _ (bs xs : List ℕ) where
+  pub begun : (p : ℕ) → p ≤ top → Sofar bs xs p 0 xs p
+  unfolding bodyLines
+  begun p h = record {
+    bodies = λ i. refusal 0;
+    read = λ i h. absurd (omega (arith, h));
+    laid = laid-none xs p h;
+  }
+
+  module _ (p j : ℕ) (short : length xs ≤ top) (ys zs : List ℕ) (at q : ℕ) (b : Body) (S : Sofar bs xs p j ys at) where
+    f : ℕ → Body
+    f = with (S .bodies) j b
+
+    text : bodyLines (j + 1) f ≡ bodyLines j (S .bodies) ++ bodyLine j (b .said) (b .table)
+    unfolding f bodyLines
+    text =
+        ap (λ (n : ℕ). bodyLines n f) (add-one j)
+        ∙ ap₂ (λ (a c : List ℕ). a ++ c) (lines-same j f (S .bodies) (with-else (S .bodies) j b))
+        (ap (λ (b : Body). bodyLine j (b .said) (b .table)) (with-here (S .bodies) j b))
+
+    at-j : ReadsBody bs j b → (i : ℕ) → j ≡ i → ReadsBody bs i (f i)
+    unfolding f
+    at-j r i e = subst (λ (i : ℕ). ReadsBody bs i (f i)) e (subst (ReadsBody bs j) (sym (with-here (S .bodies) j b)) r)
+
+    below-j : (i : ℕ) → i < j → ReadsBody bs i (f i)
+    unfolding f
+    below-j i h = subst (ReadsBody bs i) (sym (with-else (S .bodies) j b i h)) (S .read i h)
+
+    pub grown : ReadsBody bs j b → Laid ys at (bodyLine j (b .said) (b .table)) zs q → Sofar bs xs p (j + 1) zs q
+    grown r l = record {
+      bodies = f;
+      read = λ i h. ⊎-elim (λ (s : i < j). below-j i s) (λ (s : j ≤ i). at-j r i (omega (arith, s, h))) (split i j);
+      laid = laid-text (sym text) (laid-more short (S .laid) l);
+    }
+
+  -- behind the first line, all bodies of a good book are written
+  pub whole : (k j p : ℕ) (ys zs : List ℕ) (r : ℕ) → length xs ≤ top → BookNumber bs k → k ≡ 0 → j ≡ countOf bs
+      → Laid xs 0 (bookLine (countOf bs)) ys p → Sofar bs ys p j zs r → Listed bs xs zs r
+  whole k j p ys zs r short B z e l S = record {
+    text = bookLine (countOf bs) ++ bodyLines (countOf bs) (S .bodies);
+    listing = record {
+      number = k;
+      tested = B;
+      bodies = S .bodies;
+      read = λ i h. S .read i (omega (arith, h, e));
+      refused = λ ne. absurd (ne z);
+      listed = λ y. refl;
+    };
+    laid = laid-more short l (laid-text (ap (λ (n : ℕ). bodyLines n (S .bodies)) e) (S .laid));
+  }
+
+  -- a refused book is its single line
+  pub single : (k : ℕ) (ys : List ℕ) (r : ℕ) → BookNumber bs k → k ≢ 0 → Laid xs 0 (refusedLine k) ys r → Listed bs xs ys r
+  single k ys r B ne l = record {
+    text = refusedLine k;
+    listing = record {
+      number = k;
+      tested = B;
+      bodies = λ j. refusal k;
+      read = λ j h. reads-refused bs j k (refusal k) B ne refl;
+      refused = λ h. refl;
+      listed = λ z. absurd (ne z);
+    };
+    laid = l;
+  }
