@@ -1,41 +1,61 @@
 // Reads a book from standard input to its end and writes its listing to standard output.
+ghost use Prim.Native.Nat.{_≤_};
+ghost use mathlib.Core.Path.{_≡_};
+ghost use lib.ListN.{length, take};
 
-// Bytes from standard input: how many there are, or that a read failed.
-enum Input {
-    Whole(usize),
-    Failed,
+// What was read: how many bytes, and whether the input ended or filled the area (a read that failed did neither).
+struct Input {
+    bytes: usize,
+    whole: bool,
 }
 
-// Reads until the input ends or the area is full.
-fn fill(area: &mut [u8]) -> Input {
+// Reads once, into the front of a part.
+fn more(part: &mut [u8]) -> Input
+    ensures { λ r. ⌜ (r .bytes ≤ length (now (part .exit))) × (length (now (part .exit)) ≡ length (now (part .entry))) ⌝ }
+{
+    let got = libc::read(0, part);
+    let n = io::count(got, part);
+    Input {
+        bytes: n,
+        whole: got >= 0,
+    }
+}
+
+// Reads until the input ends, the area is full or a read fails.
+fn fill(area: &mut [u8]) -> Input
+    ensures { λ r. ⌜ (r .bytes ≤ length (now (area .exit))) × (r .bytes ≡ length (take (r .bytes) (now (area .exit)))) ⌝ }
+{
     let mut n = 0usize;
     while n < area.len() {
-        let got = libc::read(0, &mut area[n..]);
-        if got < 0 {
-            return Input::Failed;
+        let got = more(&mut area[n..]);
+        let bytes = got.bytes;
+        if bytes == 0 {
+            return Input {
+                bytes: n,
+                whole: got.whole,
+            };
         }
-        if got == 0 {
-            return Input::Whole(n);
-        }
-        n += io::count(got, &area[n..]);
+        n += bytes;
     }
-    Input::Whole(n)
+    Input {
+        bytes: n,
+        whole: true,
+    }
 }
 
-// The listing of a book.
+// The listing of a book. The longest has 312 bytes.
 fn show(book: &[u8]) {
-    let mut text = [0u8; 512];
+    let mut text = [0u8; 312];
     let n = listing::list(book, &mut text);
-    if n <= 512 {
-        io::write_all(1, &text[..n]);
-    }
+    io::write_all(1, &text[..n]);
 }
 
-// A book has at most 60,000 bytes: that there are more is all one has to know of a longer input. Where a read fails there is no book, and nothing is written.
+// That a book has more than 60,000 bytes is all that matters of a longer one. Where a read failed there is no book, and nothing is written.
 fn main() {
     let mut area = [0u8; 60001];
-    match fill(&mut area) {
-        Input::Whole(n) => show(&area[..n]),
-        Input::Failed => {}
+    let input = fill(&mut area);
+    let n = input.bytes;
+    if input.whole {
+        show(&area[..n]);
     }
 }

@@ -1,2 +1,4 @@
 pub mod Sofar
+pub mod Short
 pub mod Only
+pub mod Fits

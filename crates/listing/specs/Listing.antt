@@ -3,7 +3,8 @@ use mathlib.Core.Bool.{cond}
 use mathlib.Core.List.{List, [], _++_}
 use mathlib.Core.Logic.{_≢_}
 use mathlib.Core.Path.{_≡_}
-use Prim.Native.Nat.{ℕ, zero, suc, _<_}
+use Prim.Native.Nat.{ℕ, zero, suc, _≤_, _<_}
+use lib.ListN.{length}
 use lib.Count.{ones}
 use Rattle.exact.specs.Refusal.{accepted}
 use Rattle.exact.specs.declared.Amount.{Amount}
@@ -48,3 +49,5 @@ pub record Listed (bs xs ys : List ℕ) (r : ℕ) : Type 0 where
   pub text : List ℕ
   pub listing : Listing bs text
   pub laid : Laid xs 0 text ys r
+  -- a line for each of at most 16 bodies: `15 T 64 64 -2000 7` has 19 bytes with its newline, and `book 16` has 8
+  pub short : length text ≤ 312

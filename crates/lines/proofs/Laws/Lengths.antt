@@ -50,6 +50,6 @@ pub table-length : (j live ties : ℕ) (a : Amount) → j < 100 → live < 100 �
 unfolding tableLine letters
 table-length j live ties a h g m l = simp length-append (omega (arith, two j h, counts live ties a g m, amount a l))
 
-pub refused-length : (n : ℕ) → n < 100 → length (refusedLine n) ≤ 11
+pub refused-length : (n : ℕ) → n < 1000 → length (refusedLine n) ≤ 12
 unfolding refusedLine namedLine letters
-refused-length n h = simp length-append (omega (arith, two n h))
+refused-length n h = simp length-append (omega (arith, digits-length 2 n h))

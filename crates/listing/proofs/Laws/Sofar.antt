@@ -21,6 +21,7 @@ use Rattle.contents.proofs.Laws.Good.{good}
 use Rattle.book.proofs.Laws.Number.{contents-good}
 use Rattle.book.proofs.Laws.Read.{reads-refused}
 use Rattle.listing.specs.Listing.{bodyLine, bodyLines, Listing, Listed}
+use Rattle.listing.proofs.Laws.Short.{listed-short, refused-short}
 
 -- a good book has at most 16 bodies
 pub few : (bs : List ℕ) (k n : ℕ) → BookNumber bs k → k ≡ 0 → n ≡ countOf bs → n ≤ 16
@@ -103,12 +104,13 @@ module _ (bs xs : List ℕ) where
       refused = λ ne. absurd (ne z);
       listed = λ y. refl;
     };
+    short = listed-short bs k B z (S .bodies) (λ i h. S .read i (omega (arith, h, e)));
     laid = laid-more short l (laid-text (ap (λ (n : ℕ). bodyLines n (S .bodies)) e) (S .laid));
   }
 
   -- a refused book is its single line
-  pub single : (k : ℕ) (ys : List ℕ) (r : ℕ) → BookNumber bs k → k ≢ 0 → Laid xs 0 (refusedLine k) ys r → Listed bs xs ys r
-  single k ys r B ne l = record {
+  pub single : (k : ℕ) (ys : List ℕ) (r : ℕ) → k < 256 → BookNumber bs k → k ≢ 0 → Laid xs 0 (refusedLine k) ys r → Listed bs xs ys r
+  single k ys r h B ne l = record {
     text = refusedLine k;
     listing = record {
       number = k;
@@ -118,5 +120,6 @@ module _ (bs xs : List ℕ) where
       refused = λ h. refl;
       listed = λ z. absurd (ne z);
     };
+    short = refused-short k h;
     laid = l;
   }

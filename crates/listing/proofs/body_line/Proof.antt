@@ -12,64 +12,46 @@ use Rattle.lines.proofs.Laws.Laid.{laid-none, laid-text}
 use Rattle.listing.specs.Listing.{bodyLine}
 use Rattle.listing.proofs.body_line.Statement.{statement}
 use Rattle.listing.proofs.body_line.Tie as tie
-use Rattle.listing.proofs.body_line.Reads as reads
-use Rattle.listing.proofs.body_line.Lts as lts
-use Rattle.bits.proofs.count.Reads as count-reads
-use Rattle.lines.proofs.circuit_line.Reads as circuit-line-reads
-use Rattle.lines.proofs.table_line.Reads as table-line-reads
-use Rattle.listing.proofs.table_amount.Reads as table-amount-reads
 
--- src/lib.rt:30:29
 enum-told : tie.Need-enum-told
 enum-told c = search needs
 
--- src/lib.rt:31:23
 enum-known-s : tie.Need-enum-known-s
 enum-known-s c = search needs
 
--- src/lib.rt:31:29
 circuit-line-requires : tie.Need-circuit-line-requires
 circuit-line-requires c κs = search needs
 
--- src/lib.rt:33:17
 enum-told-2 : tie.Need-enum-told-2
 enum-told-2 c = search needs
 
--- src/lib.rt:33:17
 count-requires : tie.Need-count-requires
 count-requires c κs = search needs
 
--- src/lib.rt:35:56
 table-amount-requires : tie.Need-table-amount-requires
 table-amount-requires c κs = search needs
 
--- src/lib.rt:35:13
 table-line-requires : tie.Need-table-line-requires
 table-line-requires c κs = search needs
 
--- src/lib.rt:24:1
 returns : tie.Need-returns
 unfolding bodyLine
 returns c =
     let k = c .before .before .before .before in
     laid-text (sym (ap (λ (s : Said). bodyLine (k .args .j) s (k .args .b .table)) (c .enum-told .given .1))) (laid-none _ _ (omega arith))
 
--- src/lib.rt:24:1
 same-length : tie.Need-same-length
 same-length c = search needs
 
--- src/lib.rt:24:1
 returns-2 : tie.Need-returns-2
 unfolding bodyLine
 returns-2 c =
     let k = c .before .before .before .before .before .before .before .before .before in
     laid-text (sym (ap (λ (s : Said). bodyLine (k .args .j) s (k .args .b .table)) (c .before .before .before .before .before .s .given .1))) (c .before .before .circuit-line .ensures)
 
--- src/lib.rt:24:1
 same-length-2 : tie.Need-same-length-2
 same-length-2 c = search needs
 
--- src/lib.rt:24:1
 returns-3 : tie.Need-returns-3
 unfolding bodyLine
 returns-3 c =

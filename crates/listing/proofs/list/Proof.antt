@@ -12,14 +12,6 @@ use Rattle.book.proofs.Laws.Read.{reads-answer}
 use Rattle.listing.proofs.Laws.Sofar.{Sofar, few, narrow, begun, grown, whole, single}
 use Rattle.listing.proofs.list.Statement.{statement}
 use Rattle.listing.proofs.list.Tie as tie
-use Rattle.listing.proofs.list.Reads as reads
-use Rattle.listing.proofs.list.Lts as lts
-use Rattle.book.proofs.body_at.Reads as body-at-reads
-use Rattle.book.proofs.test.Reads as test-reads
-use Rattle.contents.proofs.count.Reads as count-reads
-use Rattle.lines.proofs.book_line.Reads as book-line-reads
-use Rattle.lines.proofs.refused_line.Reads as refused-line-reads
-use Rattle.listing.proofs.body_line.Reads as body-line-reads
 
 abbrev Inv-loop : tie.InvT-loop
 Inv-loop book area₀ number n at₀ j₀ area at j = (j ≤ n) × Sofar book area₀ at₀ j area at
@@ -27,53 +19,43 @@ Inv-loop book area₀ number n at₀ j₀ area at j = (j ≤ n) × Sofar book ar
 abbrev μ-loop : tie.MeasureT-loop
 μ-loop book area₀ number n at₀ j₀ area at j = n - j
 
--- src/lib.rt:44:9
 test-requires : tie.Need-test-requires Inv-loop μ-loop
 test-requires c κs = search needs
 
--- src/lib.rt:46:9
 refused-line-requires : tie.Need-refused-line-requires Inv-loop μ-loop
 refused-line-requires c κs = search needs
 
--- src/lib.rt:46:9
 same-length : tie.Need-same-length Inv-loop μ-loop
 same-length c = search needs
 
--- src/lib.rt:46:9
 returns : tie.Need-returns Inv-loop μ-loop
 returns c =
     let k = c .before .before .before .before .before .before .before .before in
     let t = c .before .before .before .before .before .test in
     let l = c .before .before .refused-line in
-    single (k .args .book .now) (k .args .area .now) (t .result) (l .last .0) (l .result) (t .ensures) (c .before .before .before .before .if1 .taken) (l .ensures)
+    single (k .args .book .now) (k .args .area .now) (t .result) (l .last .0) (l .result) (omega arith) (t .ensures) (c .before .before .before .before .if1 .taken) (l .ensures)
 
--- src/lib.rt:48:9
 count-requires : tie.Need-count-requires Inv-loop μ-loop
 count-requires c κs = search needs
 
--- src/lib.rt:49:44
 cast-book-line : tie.Need-cast-book-line Inv-loop μ-loop
 cast-book-line c =
     let bs = c .before .before .before .before .before .before .args .book .now in
     let t = c .before .before .before .test in
     record { fits = omega (arith, few bs (t .result) (c .before .count .result) (t .ensures) (c .before .before .if1 .left) (c .before .count .ensures)) }
 
--- src/lib.rt:49:9
 book-line-requires : tie.Need-book-line-requires Inv-loop μ-loop
 book-line-requires c κs = search needs
 
--- src/lib.rt:51:5
 loop-holds : tie.Need-loop-holds Inv-loop μ-loop
 loop-holds c = (omega arith, begun _ _ _ (omega arith))
 
--- src/lib.rt:52:13
 body-at-requires : tie.Need-body-at-requires Inv-loop μ-loop
 body-at-requires c κs =
     let e = c .before .before in
     let t = e .before .before .before .before .before .before .test in
     (contents-good (e .before .before .before .before .before .before .before .before .before .args .book .now) (t .result) (t .ensures) (e .before .before .before .before .before .if1 .left), omega (arith, e .before .before .before .before .count .ensures))
 
--- src/lib.rt:53:34
 cast-body-line : tie.Need-cast-body-line Inv-loop μ-loop
 cast-body-line c =
     let e = c .before .before .before .before in
@@ -81,19 +63,15 @@ cast-body-line c =
     let h = few (e .before .before .before .before .before .before .before .before .before .args .book .now) (t .result) (e .before .before .before .before .count .result) (t .ensures) (e .before .before .before .before .before .if1 .left) (e .before .before .before .before .count .ensures) in
     record { fits = omega (arith, h) }
 
--- src/lib.rt:53:9
 body-line-requires : tie.Need-body-line-requires Inv-loop μ-loop
 body-line-requires c κs = search needs
 
--- src/lib.rt:54:9
 add-j : tie.Need-add-j Inv-loop μ-loop
 add-j c = search needs
 
--- src/lib.rt:51:5
 loop-less : tie.Need-loop-less Inv-loop μ-loop
 loop-less c = search needs
 
--- src/lib.rt:51:5
 loop-again : tie.Need-loop-again Inv-loop μ-loop
 loop-again c =
     let l = c .before .before .before .before .before .before .loop in
@@ -105,11 +83,9 @@ loop-again c =
     let short : length (e .before .before .before .before .before .before .before .before .before .args .area .now) ≤ top = omega (arith, e .before .before .before .before .before .before .before .before .before .good .1 .0) in
     (omega arith, grown bs _ _ (l .j) (narrow (e .before .before .book-line .ensures) short) _ _ _ _ (b .result) (l .inv .1) (reads-answer bs (l .j) (t .result) (b .result) (t .ensures) (e .before .before .before .before .before .if1 .left) (omega (arith, n .ensures)) (b .ensures)) (c .before .before .body-line .ensures))
 
--- src/lib.rt:41:1
 same-length-2 : tie.Need-same-length-2 Inv-loop μ-loop
 same-length-2 c = laid-length (c .before .loop .inv .1 .laid) ∙ laid-length (c .before .before .before .before .book-line .ensures)
 
--- src/lib.rt:41:1
 returns-2 : tie.Need-returns-2 Inv-loop μ-loop
 returns-2 c =
     let l = c .before .loop in

@@ -7,11 +7,9 @@ use Rattle.exact.specs.declared.Amount.the-variants.{Some}
 use Rattle.listing.proofs.table_amount.Statement.{statement}
 use Rattle.listing.proofs.table_amount.Tie as tie
 
--- src/lib.rt:15:9
 returns : tie.Need-returns
 returns c = search needs
 
--- src/lib.rt:11:1
 returns-2 : tie.Need-returns-2
 returns-2 c =
     let t = c .before .before .before .before .args .t in

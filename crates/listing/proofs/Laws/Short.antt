@@ -1,0 +1,106 @@
+-- A listing is short: 8 bytes for the first line and 19 for each of at most 16 bodies. By the ranges that a reading's promise gives, and the lengths of lines.
+use mathlib.Core.Bool.{Bool, true, false, cond}
+use mathlib.Core.List.{List, _++_}
+use mathlib.Core.Logic.{_≢_, ⊎-elim}
+use mathlib.Core.Path.{_≡_, refl, sym, ap, subst, _∙_}
+use Prim.Native.Nat.{ℕ, zero, suc, _+_, _*_, _≤_, _<_}
+use native.Mathlib.Omega.{arith}
+use lib.Count.{ones, ones-le}
+use lib.IntN.{ℤ, pos, negsuc, natAbs}
+use lib.ListN.{length, length-append}
+use Rattle.exact.specs.declared.Amount.{Amount}
+use Rattle.exact.specs.declared.Amount.the-variants.{Zero, Some}
+use Rattle.exact.specs.declared.Answer.the-variants.{Is}
+use Rattle.exact.specs.Amount.{none, some, Small}
+use Rattle.bits.proofs.Laws.Bit.{same-or}
+use Rattle.table.specs.declared.Table.{Table}
+use Rattle.table.specs.Entry.{ties}
+use Rattle.table.specs.Normal as normal
+use Rattle.table.specs.Normal.{Normal}
+use Rattle.circuit.specs.Run.{Near}
+use Rattle.contents.specs.Contents.{countOf, widthOf, entryOf}
+use Rattle.contents.proofs.Laws.Good.{good}
+use Rattle.body.specs.Body.{bodyFault, tableOf}
+use Rattle.lines.specs.Lines.{bookLine, circuitLine, tableLine, refusedLine}
+use Rattle.lines.proofs.Laws.Lengths.{InRange, book-length, circuit-length, table-length, refused-length}
+use Rattle.book.specs.declared.Body.{Body}
+use Rattle.book.specs.Book.{BookNumber, bodyBytes, circuitBodyNumber}
+use Rattle.book.specs.Read.{refusal, amplitude, whole, saidNumber, saidAmount, CircuitAnswer, TableAnswer, ReadsBody}
+use Rattle.book.proofs.Laws.Number.{contents-good}
+use Rattle.book.proofs.Laws.Only.{one-number}
+use Rattle.listing.specs.Listing.{tableAmount, bodyLine, bodyLines}
+
+-- ---- amounts
+circuit-range : (a : Amount) → Small a → Near a → InRange a
+circuit-range Zero s n = tt
+circuit-range (Some p c) s n = (omega (arith, n), s)
+
+power-range : (s : ℤ) → normal.InRange s → natAbs s ≤ 2000
+power-range (pos n) h = h
+power-range (negsuc n) h = omega (arith, h)
+
+table-range : (t : Table) → Normal t → InRange (tableAmount t)
+table-range t N = go (t .zero)
+  where
+    go : (z : Bool) → InRange (cond z none (some (t .power .0) (t .form .phase .0)))
+    go true = tt
+    go false = (power-range (t .power .0) (N .power-range), N .proper .phase-range)
+
+-- ---- the line of a body
+long : ℕ → Body → ℕ
+long j b = length (bodyLine j (b .said) (b .table))
+
+module _ (j : ℕ) (h : j < 16) where
+  refused-none : (k : ℕ) → long j (refusal k) ≤ 19
+  unfolding long bodyLine
+  refused-none k = omega arith
+
+  circuit-short : (n : ℕ) (bs : List ℕ) (b : Body) → CircuitAnswer n bs b → long j b ≤ 19
+  unfolding long bodyLine
+  circuit-short n bs b A =
+      ⊎-elim
+      (λ (z : circuitBodyNumber n bs ≡ 0).
+      let a = saidAmount (b .said) in
+      subst (λ (c : Body). long j c ≤ 19) (sym (A .given z)) (omega (arith, circuit-length j a (omega arith) (circuit-range a (A .value z .small) (A .value z .near)))))
+      (λ (ne : circuitBodyNumber n bs ≢ 0). subst (λ (c : Body). long j c ≤ 19) (sym (A .refused ne)) (refused-none (circuitBodyNumber n bs)))
+      (same-or (circuitBodyNumber n bs) 0)
+
+  whole-short : (t : Table) → Normal t → long j (whole t) ≤ 19
+  unfolding long bodyLine
+  whole-short t N =
+      table-length j (ones (t .live)) (ties t) (tableAmount t) (omega arith) (omega (arith, ones-le 64 (t .live) (N .live-range))) (omega (arith, N .reduced .count-range)) (table-range t N)
+
+  table-short : (n : ℕ) (bs : List ℕ) (b : Body) → TableAnswer n bs b → long j b ≤ 19
+  table-short n bs b A = by (bodyFault n bs) refl
+    where
+      same : (c : Body) → b ≡ c → long j c ≤ 19 → long j b ≤ 19
+      same c e l = subst (λ (c : Body). long j c ≤ 19) (sym e) l
+
+      by : (f : Bool) → bodyFault n bs ≡ f → long j b ≤ 19
+      by true e = same (refusal 11) (A .fault e) (refused-none 11)
+      by false e =
+          ⊎-elim (λ (z : saidNumber (b .said) ≡ 0). same (whole (tableOf n bs)) (A .sound e (A .normal z)) (whole-short (tableOf n bs) (A .normal z)))
+          (λ (ne : saidNumber (b .said) ≢ 0). same (refusal 12) (A .broken e (λ t. ne (ap (λ (x : Body). saidNumber (x .said)) (A .sound e t)))) (refused-none 12))
+          (same-or (saidNumber (b .said)) 0)
+
+-- ---- the listing
+module _ (bs : List ℕ) (k : ℕ) (B : BookNumber bs k) (z : k ≡ 0) where
+  few : countOf bs ≤ 16
+  few = good bs (contents-good bs k B z) .count
+
+  line-short : (j : ℕ) (b : Body) → j < countOf bs → ReadsBody bs j b → long j b ≤ 19
+  line-short j b h R =
+      let a = R .answer (one-number bs (R .number) k (R .tested) B ∙ z) h in
+      ⊎-elim (λ c. circuit-short j (omega (arith, few, h)) (widthOf bs j) (bodyBytes bs j) b (a .circuit c))
+      (λ c. table-short j (omega (arith, few, h)) (widthOf bs j) (bodyBytes bs j) b (a .table c)) (good bs (contents-good bs k B z) .body j h (entryOf bs j) refl .kind)
+
+  lines-short : (f : ℕ → Body) → ((j : ℕ) → j < countOf bs → ReadsBody bs j (f j)) → (n : ℕ) → n ≤ countOf bs → length (bodyLines n f) ≤ 19 * n
+  unfolding bodyLines long
+  lines-short f R zero h = omega arith
+  lines-short f R (suc n) h = simp length-append (omega (arith, lines-short f R n (omega (arith, h)), line-short n (f n) (omega (arith, h)) (R n (omega (arith, h)))))
+
+  pub listed-short : (f : ℕ → Body) → ((j : ℕ) → j < countOf bs → ReadsBody bs j (f j)) → length (bookLine (countOf bs) ++ bodyLines (countOf bs) f) ≤ 312
+  listed-short f R = simp length-append (omega (arith, few, book-length (countOf bs) (omega (arith, few)), lines-short f R (countOf bs) (omega arith)))
+
+pub refused-short : (k : ℕ) → k < 256 → length (refusedLine k) ≤ 312
+refused-short k h = omega (arith, refused-length k (omega (arith, h)))
