@@ -1,11 +1,8 @@
 -- "A table written to a book reads back with the same entries": a normal table, written and read, is the table with its live bits renumbered in rising order.
-use mathlib.Core.Bool.{cond}
 use mathlib.Core.List.{List}
 use mathlib.Core.Path.{_≡_, refl, sym, ap, subst, _∙_}
-use Prim.Native.Nat.{ℕ, _+_, _-_, _*_, _^_, _≤_, _<_}
-use native.Mathlib.Omega.{arith}
+use Prim.Native.Nat.{ℕ, _-_, _^_, _≤_}
 use lib.Count.{ones}
-use lib.ListN.{length}
 use Rattle.exact.specs.Refusal.{accepted}
 use Rattle.table.specs.declared.Table.{Table}
 use Rattle.table.specs.Entry.{entry, turn, row, tie, side, ties}
