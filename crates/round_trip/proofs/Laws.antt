@@ -6,3 +6,4 @@ pub mod Same
 pub mod Joined
 pub mod Book
 pub mod Area
+pub mod Kept
