@@ -1,1 +1,1 @@
-// A table written and read back, and a body read and written back. Theorems only.
+// A table written and read back, a body read and written back, and a book put together. Theorems only.

@@ -1,11 +1,9 @@
 -- "A table written to a book reads back with the same entries": a normal table, written and read, is the table with its live bits renumbered in rising order.
-use mathlib.Core.Bool.{cond}
+use mathlib.Core.Bool.{false}
 use mathlib.Core.List.{List}
 use mathlib.Core.Path.{_≡_, refl, sym, ap, subst, _∙_}
-use Prim.Native.Nat.{ℕ, _+_, _-_, _*_, _^_, _≤_, _<_}
-use native.Mathlib.Omega.{arith}
+use Prim.Native.Nat.{ℕ, _-_, _^_, _≤_}
 use lib.Count.{ones}
-use lib.ListN.{length}
 use Rattle.exact.specs.Refusal.{accepted}
 use Rattle.table.specs.declared.Table.{Table}
 use Rattle.table.specs.Entry.{entry, turn, row, tie, side, ties}
@@ -19,8 +17,10 @@ use Rattle.pack.proofs.Laws.Body.{body-plain}
 use Rattle.pack.proofs.Laws.Normal.{packed-normal}
 use Rattle.pack.proofs.Laws.Entry.{packed-entry}
 use Rattle.body.specs.declared.Reading.{Reading}
+use Rattle.body.specs.Body.{bodyFault, tableOf}
 use Rattle.body.specs.Read.{reading, Reads}
-use Rattle.body.proofs.Laws.Stated.{States, stated-read}
+use Rattle.body.proofs.Laws.Fine.{not-refused}
+use Rattle.body.proofs.Laws.Stated.{States, stated, stated-fine, stated-read}
 use Rattle.round_trip.proofs.Laws.Written.{mark-is, phase-is, power-is, turn-is, row-is, count-is, tie-is, side-is}
 
 -- the bytes of a table whose live slots are 0..n−1 state it
@@ -39,19 +39,34 @@ states n t N e = record {
   side = side-is (t .zero) (t .form .phase .0) (t .power .0) n (turn t) (row t) (ties t) (tie t) (side t);
 }
 
--- a written table reads back
-pub read-back : (t : Table) → Normal t → (r : Reading) → Reads (ones (t .live)) (bodyBytes t) r → r ≡ reading accepted (packedTable t)
-unfolding packedTable packedTies
-read-back t N r w =
-    stated-read (ones (t .live)) (bodyBytes t) (packedTable t) (packed-normal t N) stated few (ties-fit t N) r w
-  where
-    few : ones (t .live) ≤ 64
-    few = ones-small (t .live) (N .live-range)
+-- and so do the bytes of any normal table, of its packed one
+module _ (t : Table) (N : Normal t) where
+  stated-body : States (ones (t .live)) (bodyBytes t) (packedTable t)
+  unfolding packedTable
+  stated-body =
+      subst (λ (bs : List ℕ). States (ones (t .live)) bs (packedTable t)) (body-plain t (N .live-range) (N .reduced .masks-are))
+      (states (ones (t .live)) (packedTable t) (packed-normal t N) refl)
 
-    stated : States (ones (t .live)) (bodyBytes t) (packedTable t)
-    stated =
-        subst (λ (bs : List ℕ). States (ones (t .live)) bs (packedTable t)) (body-plain t (N .live-range) (N .reduced .masks-are))
-        (states (ones (t .live)) (packedTable t) (packed-normal t N) refl)
+  few-ties : ties (packedTable t) ≤ ones (t .live)
+  unfolding packedTable packedTies
+  few-ties = ties-fit t N
+
+  -- a written table reads back
+  pub read-back : (r : Reading) → Reads (ones (t .live)) (bodyBytes t) r → r ≡ reading accepted (packedTable t)
+  read-back r w =
+      stated-read (ones (t .live)) (bodyBytes t) (packedTable t) (packed-normal t N) stated-body (ones-small (t .live) (N .live-range)) few-ties r w
+
+  -- its bytes are not refused, and state the packed table
+  pub written-fine : bodyFault (ones (t .live)) (bodyBytes t) ≡ false
+  written-fine =
+      not-refused (ones (t .live)) (bodyBytes t)
+      (stated-fine (ones (t .live)) (bodyBytes t) (packedTable t) (packed-normal t N) stated-body (ones-small (t .live) (N .live-range)) few-ties)
+
+  pub written-table : packedTable t ≡ tableOf (ones (t .live)) (bodyBytes t)
+  written-table = stated (ones (t .live)) (bodyBytes t) (packedTable t) (packed-normal t N) stated-body
+
+  pub written-normal : Normal (tableOf (ones (t .live)) (bodyBytes t))
+  written-normal = subst Normal written-table (packed-normal t N)
 
 -- and what is read has the same entries, bit i of the new table being the live bit with i live bits below it
 pub same-values : (t : Table) → Normal t → (r : Reading) → Reads (ones (t .live)) (bodyBytes t) r → (y : ℕ → ℕ)

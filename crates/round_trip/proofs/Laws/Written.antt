@@ -1,16 +1,16 @@
 -- What stands where in the bytes of a body: each field at the place where a reader looks for it. By the lengths of what stands before it.
-use mathlib.Core.Bool.{Bool, true, false, cond}
+use mathlib.Core.Bool.{Bool}
 use mathlib.Core.List.{List, [], _∷_, _++_}
 use mathlib.Core.Path.{_≡_, refl, sym, ap, subst, _∙_}
 use Prim.Native.Nat.{ℕ, zero, suc, _+_, _-_, _*_, _^_, _≤_, _<_}
 use native.Mathlib.Omega.{arith}
 use lib.IntN.{ℤ, pos, negsuc}
 use lib.ListN.{length}
-use Rattle.fields.specs.Bytes.{byteAt, le, number}
+use Rattle.fields.specs.Bytes.{byteAt, le}
 use Rattle.fields.proofs.Laws.Front.{length-le}
 use Rattle.table.specs.Normal.{InRange}
 use Rattle.pack.specs.Body.{joined, mark, ofSigned16, headBytes, tieBytes, fieldBytes}
-use Rattle.pack.proofs.Laws.Bytes.{toTurns, toRows, toCount, toTies, length-turns, length-rows, length-count, length-ties, length-joined, length-tie, fields-are}
+use Rattle.pack.proofs.Laws.Bytes.{toTurns, toRows, toCount, toTies, length-turns, length-rows, length-count, length-ties, length-tie, fields-are}
 use Rattle.body.specs.Body.{signed16, markOf, phaseOf, powerOf, turnOf, rowOf, countOf, maskOf, sideOf}
 use Rattle.body.proofs.Laws.Signed.{signed-low, signed-high}
 use Rattle.round_trip.proofs.Laws.Part.{Part, part-at, part-own, part-left, part-right, part-joined, part-byte, part-number}
