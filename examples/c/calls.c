@@ -1,0 +1,92 @@
+/* Topazfern from C: an amplitude, a listing, and a book that is put together and read back. */
+#include <stdio.h>
+#include <string.h>
+
+#include "topazfern.h"
+
+/* The amount behind three pointers, as a listing writes it. */
+static void show(const char *name, uint8_t refused, uint8_t zero, int32_t power, uint8_t phase)
+{
+    if (refused)
+        printf("%s: refused %d\n", name, refused);
+    else if (zero)
+        printf("%s: zero\n", name);
+    else
+        printf("%s: %d %d\n", name, power, phase);
+}
+
+/* H on wire 0, then CX from wire 0 to wire 1. */
+static const uint8_t bell[] = {1, 0, 0, 17, 0, 1};
+
+static void amplitudes(void)
+{
+    uint8_t zero, phase, refused;
+    int32_t power;
+
+    refused = topazfern_amplitude(2, 0, 3, bell, sizeof bell, &zero, &power, &phase);
+    show("00 to 11", refused, zero, power, phase);
+    refused = topazfern_amplitude(2, 0, 1, bell, sizeof bell, &zero, &power, &phase);
+    show("00 to 01", refused, zero, power, phase);
+    refused = topazfern_amplitude(1, 0, 0, bell, sizeof bell, &zero, &power, &phase);
+    show("on one wire", refused, zero, power, phase);
+}
+
+/* Two slots tied to differ, slot 0 turned by a quarter: c = 2 and a_1 = 3. */
+static const uint8_t tied[] = {
+    0, 2, 0, 0,                            /* zero mark, phase, power */
+    0, 3,                                  /* turns */
+    0, 0, 0, 0, 0, 0, 0, 0,                /* row 0 */
+    0, 0, 0, 0, 0, 0, 0, 0,                /* row 1 */
+    1, 3, 0, 0, 0, 0, 0, 0, 0, 1,          /* one tie: slots 0 and 1, sum 1 */
+};
+
+static void entries(void)
+{
+    uint8_t zero, phase, refused;
+    int32_t power;
+    char name[16];
+
+    for (uint64_t x = 0; x < 5; x++) {
+        snprintf(name, sizeof name, "entry %d%d%d", (int)(x >> 2 & 1), (int)(x >> 1 & 1), (int)(x & 1));
+        refused = topazfern_entry(tied, sizeof tied, 2, x, &zero, &power, &phase);
+        show(name, refused, zero, power, phase);
+    }
+}
+
+/* A book of the circuit (two strings and its gates) and the table. */
+static size_t build(uint8_t *book, size_t room)
+{
+    const uint8_t kinds[] = {1, 2}, widths[] = {2, 2};
+    const uint16_t lengths[] = {8 + sizeof bell, sizeof tied};
+    size_t at, bytes;
+
+    if (topazfern_lay(book, room, kinds, 2, widths, 2, lengths, 2, &at))
+        return 0;
+    memcpy(book + at, "\0\0\0\0\3\0\0\0", 8);
+    memcpy(book + at + 8, bell, sizeof bell);
+    at += 8 + sizeof bell;
+    if (topazfern_write(tied, sizeof tied, 2, book, room, at, &bytes))
+        return 0;
+    return at + bytes;
+}
+
+int main(void)
+{
+    uint8_t book[100], text[TOPAZFERN_LISTING_MAX], kind, zero, phase, refused;
+    size_t length, live, ties;
+    int32_t power;
+
+    amplitudes();
+    entries();
+    length = build(book, sizeof book);
+    printf("a book of %zu bytes\n", length);
+    fwrite(text, 1, topazfern_listing(book, length, text, sizeof text), stdout);
+    for (size_t j = 0; j < 3; j++) {
+        refused = topazfern_read(book, length, j, &kind, &live, &ties, &zero, &power, &phase);
+        if (refused)
+            printf("body %zu: refused %d\n", j, refused);
+        else
+            printf("body %zu: kind %d, live %zu, ties %zu, zero %d, power %d, phase %d\n", j, kind, live, ties, zero, power, phase);
+    }
+    return 0;
+}

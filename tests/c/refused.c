@@ -1,0 +1,71 @@
+/* Where a call for C is refused, nothing behind its pointers has changed, and a writer answers 0 bytes. */
+#include <stdio.h>
+#include <string.h>
+
+#include "topazfern.h"
+
+static int bad;
+
+static void expect(const char *what, int holds)
+{
+    if (!holds) {
+        printf("%s: does not hold\n", what);
+        bad = 1;
+    }
+}
+
+/* One table of width 1 that is sound, and one whose tie is empty. */
+static const uint8_t sound[] = {0, 0, 0, 0, 0, 0, 0, 0, 0, 0, 0, 0, 0, 0};
+static const uint8_t empty_tie[] = {0, 0, 0, 0, 0, 0, 0, 0, 0, 0, 0, 0, 0, 1, 0, 0, 0, 0, 0, 0, 0, 0, 0};
+
+static void amounts(void)
+{
+    uint8_t zero = 200, phase = 201, kind = 202;
+    int32_t power = -7;
+    size_t live = 77, ties = 78;
+
+    expect("gate bytes not in threes", topazfern_amplitude(1, 0, 0, sound, 2, &zero, &power, &phase) == 11);
+    expect("width 0", topazfern_amplitude(0, 0, 0, sound, 0, &zero, &power, &phase) == 6);
+    expect("width 32", topazfern_amplitude(32, 0, 0, sound, 0, &zero, &power, &phase) == 6);
+    expect("input beyond the width", topazfern_amplitude(1, 2, 0, sound, 0, &zero, &power, &phase) == 8);
+    expect("output beyond the width", topazfern_amplitude(31, 0, 0x80000000u, sound, 0, &zero, &power, &phase) == 8);
+    expect("code 0", topazfern_amplitude(1, 0, 0, sound, 3, &zero, &power, &phase) == 7);
+    expect("a body too short", topazfern_entry(sound, 13, 1, 0, &zero, &power, &phase) == 11);
+    expect("an empty tie", topazfern_entry(empty_tie, sizeof empty_tie, 1, 0, &zero, &power, &phase) == 12);
+    expect("a bit that is not live", topazfern_entry(sound, sizeof sound, 1, 2, &zero, &power, &phase) == 1);
+    expect("an empty book", topazfern_read(sound, 0, 0, &kind, &live, &ties, &zero, &power, &phase) == 9);
+    expect("no body", topazfern_read((const uint8_t *)"QN\1\0", 4, 0, &kind, &live, &ties, &zero, &power, &phase) == 14);
+    expect("amounts unchanged", zero == 200 && power == -7 && phase == 201 && kind == 202 && live == 77 && ties == 78);
+}
+
+static void areas(void)
+{
+    uint8_t area[40], before[40];
+    const uint8_t kinds[] = {1, 3};
+    const uint16_t lengths[] = {8, 60000};
+    size_t bytes = 5;
+
+    memset(area, 0xA5, sizeof area);
+    memcpy(before, area, sizeof area);
+    expect("no room for the body", topazfern_write(sound, sizeof sound, 1, area, 20, 7, &bytes) == 13 && bytes == 0);
+    bytes = 5;
+    expect("a start beyond the end", topazfern_write(sound, sizeof sound, 1, area, 20, 21, &bytes) == 13 && bytes == 0);
+    bytes = 5;
+    expect("not normal", topazfern_write(empty_tie, sizeof empty_tie, 1, area, 40, 0, &bytes) == 12 && bytes == 0);
+    bytes = 5;
+    expect("a bad kind", topazfern_lay(area, 40, kinds, 2, kinds, 2, lengths, 2, &bytes) == 10 && bytes == 0);
+    bytes = 5;
+    expect("no room for contents", topazfern_lay(area, 11, kinds, 1, kinds, 1, lengths, 1, &bytes) == 13 && bytes == 0);
+    expect("areas unchanged", memcmp(area, before, sizeof area) == 0);
+    expect("written", topazfern_write(sound, sizeof sound, 1, area, 21, 7, &bytes) == 0 && bytes == 14);
+    expect("the same bytes", memcmp(area + 7, sound, 14) == 0 && memcmp(area, before, 7) == 0 && memcmp(area + 21, before, 19) == 0);
+}
+
+int main(void)
+{
+    amounts();
+    areas();
+    if (!bad)
+        puts("refused calls change nothing");
+    return bad;
+}
