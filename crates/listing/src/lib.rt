@@ -8,7 +8,7 @@ use exact::Amount;
 use table::Table;
 
 // What a table's line shows as its amount: zero, or its power and its phase.
-fn table_amount(t: Table) -> Amount
+pub fn table_amount(t: Table) -> Amount
     ensures { λ r. ⌜ r ≡ tableAmount t ⌝ }
 {
     if t.zero {

@@ -1,0 +1,71 @@
+/* Topazfern for programs in C: exact amplitudes, listings and table bodies, over numbers and bytes.
+ *
+ * Link with libtopazfern.a (x86-64 Linux): rt staticlib topazfern; cc program.c target/staticlib/libtopazfern.a
+ *
+ * Each call takes any bytes and any numbers, ends, keeps nothing and calls nothing back. A call that answers a number of
+ * refusal (1..14, below) has changed nothing behind its pointers, but that a writer sets *bytes to 0. The caller owes what C
+ * cannot check: each pointer is valid for its length (a length of 0 may come with any pointer that is not null), and no two
+ * of a call's pointers overlap where one of them is written through. Calls may run at the same time on different memory.
+ *
+ * An amount stands behind three pointers: *zero is 1 where it is 0 (then *power and *phase are 0); else *zero is 0 and the
+ * amount is the square root of two to *power, turned by *phase eighths (0..7).
+ */
+#ifndef TOPAZFERN_H
+#define TOPAZFERN_H
+
+#include <stddef.h>
+#include <stdint.h>
+
+#ifdef __cplusplus
+extern "C" {
+#endif
+
+/* Numbers of refusal, as document 01 has them; 0 is none. */
+enum {
+    TOPAZFERN_ACCEPTED = 0,
+    TOPAZFERN_NOT_LIVE = 1,      /* an assignment has a bit that is not live */
+    TOPAZFERN_TWICE = 2,         /* the same wire twice */
+    TOPAZFERN_RANGE = 3,         /* second byte of a one-wire gate not 0 */
+    TOPAZFERN_WIDTH = 6,         /* width of a circuit not 1..31, or a wire not below it */
+    TOPAZFERN_CODE = 7,          /* unknown gate code */
+    TOPAZFERN_STRING = 8,        /* a string has a bit at or above the width */
+    TOPAZFERN_HEADER = 9,        /* a book's length, letters, edition or count; a list to lay of more than 16 */
+    TOPAZFERN_CONTENTS = 10,     /* a book's contents; lists to lay unequal, bad kind, or total above 60,000 */
+    TOPAZFERN_BODY = 11,         /* body length wrong, more than 4,096 gates, or a field out of range */
+    TOPAZFERN_NOT_NORMAL = 12,   /* a table that is not normal */
+    TOPAZFERN_ROOM = 13,         /* the area is too short for what is to be written, or the start is beyond its end */
+    TOPAZFERN_NO_BODY = 14       /* no body of that number */
+};
+
+/* The longest listing. */
+#define TOPAZFERN_LISTING_MAX 312
+
+/* The amplitude of a circuit: three bytes for each gate, bit i of a string is wire i. Refuses 11, 6, 8, then gate by gate 7, 6, 3 or 2. */
+uint8_t topazfern_amplitude(uint8_t width, uint32_t input, uint32_t output, const uint8_t *gates, size_t gates_length,
+                            uint8_t *zero, int32_t *power, uint8_t *phase);
+
+/* The listing of a book at the front of text. Answers its length, at most 312; bytes beyond text_length are dropped. A refused book has a listing too. */
+size_t topazfern_listing(const uint8_t *book, size_t book_length, uint8_t *text, size_t text_length);
+
+/* Body j of a book: *kind is 1 for a circuit, whose amplitude is the amount (*live and *ties are 0), or 2 for a table, with its
+ * live bits, its ties, and its power and phase as the amount. Refuses as the book is refused (9, 10, then its bodies), then 14. */
+uint8_t topazfern_read(const uint8_t *book, size_t book_length, size_t j, uint8_t *kind, size_t *live, size_t *ties,
+                       uint8_t *zero, int32_t *power, uint8_t *phase);
+
+/* The entry of a table body of this width at an assignment, bit v of x for slot v. Refuses 11, 12, then 1. */
+uint8_t topazfern_entry(const uint8_t *body, size_t body_length, uint8_t width, uint64_t x,
+                        uint8_t *zero, int32_t *power, uint8_t *phase);
+
+/* Header and contents of a book at the front of area, from three lists: kinds, widths, lengths of bodies. Refuses 9, 10, 13. */
+uint8_t topazfern_lay(uint8_t *area, size_t area_length, const uint8_t *kinds, size_t kinds_length,
+                      const uint8_t *widths, size_t widths_length, const uint16_t *lengths, size_t lengths_length, size_t *bytes);
+
+/* A table body of this width, tested, written into area from start on: the same bytes. Refuses 11, 12, 13. */
+uint8_t topazfern_write(const uint8_t *body, size_t body_length, uint8_t width, uint8_t *area, size_t area_length,
+                        size_t start, size_t *bytes);
+
+#ifdef __cplusplus
+}
+#endif
+
+#endif
