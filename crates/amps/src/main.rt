@@ -50,12 +50,14 @@ fn show(book: &[u8]) {
     io::write_all(1, &text[..n]);
 }
 
-// That a book has more than 60,000 bytes is all that matters of a longer one. Where a read failed there is no book, and nothing is written.
+// That a book has more than 60,000 bytes is all that matters of a longer one. Where a read failed there is no book, and so no listing.
 fn main() {
     let mut area = [0u8; 60001];
     let input = fill(&mut area);
     let n = input.bytes;
     if input.whole {
         show(&area[..n]);
+    } else {
+        io::write_all(2, b"amps: standard input cannot be read\n");
     }
 }
