@@ -12,7 +12,7 @@ def host(rng, width=None, length=None):
     return width, some_circuits.gates(rng, width, rng.randint(0, 12) if length is None else length)
 
 
-def body(rng, width, circuit, given=0, wanted=0):
+def body(width, circuit, given=0, wanted=0):
     return CIRCUIT, width, g.body(given, wanted, circuit)
 
 
@@ -81,7 +81,7 @@ def with_gates(rng, width, gates_in):
     places = sorted(rng.randint(0, len(circuit)) for _ in gates_in)
     for more, (at, gate) in enumerate(zip(places, gates_in)):
         circuit.insert(at + more, gate)
-    return body(rng, width, circuit)
+    return body(width, circuit)
 
 
 def refused_gate(rng, number):
@@ -92,7 +92,7 @@ def refused_gate(rng, number):
 def refused_6(rng):
     if rng.random() < 0.5:
         return refused_gate(rng, 6)
-    return body(rng, rng.choice(BAD_WIDTHS), host(rng)[1])
+    return body(rng.choice(BAD_WIDTHS), host(rng)[1])
 
 
 def high_bit(rng, width):
@@ -105,7 +105,7 @@ def refused_8(rng):
     which = rng.randint(1, 3)
     given |= high_bit(rng, width) if which & 1 else 0
     wanted |= high_bit(rng, width) if which & 2 else 0
-    return body(rng, width, circuit, given, wanted)
+    return body(width, circuit, given, wanted)
 
 
 def refused_11(rng):
@@ -132,14 +132,14 @@ def length_and(rng, other):
 
 def width_and_string(rng):
     """Width 0 with string bits: 6 before 8."""
-    return body(rng, 0, [], rng.choice([1, 1 << 31]), rng.choice([0, 1]))
+    return body(0, [], rng.choice([1, 1 << 31]), rng.choice([0, 1]))
 
 
 def width_and_gate(rng, number):
     """A bad width and a bad gate, which is bad at that width too."""
     width = rng.choice([32, 64, 65, 255])
     bad = {7: (rng.choice(g.UNKNOWN), 0, 0), 3: (g.H, 0, 1), 2: (g.CX, 0, 0), 6: (g.H, 255, 0)}[number]
-    return body(rng, width, [*host(rng, 2)[1], bad])
+    return body(width, [*host(rng, 2)[1], bad])
 
 
 def string_and_gate(rng, number):

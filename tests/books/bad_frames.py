@@ -1,7 +1,7 @@
 """Books whose header or contents are refused: 9 and 10. Each maker is given a sound book."""
 import struct
 
-from book import Entry, entries
+from book import entries
 
 
 def with_entry(book, at, entry):

@@ -203,11 +203,26 @@ def wrong_count(rng):
     return TABLE, t.width, tables.body(t, len(t.ties) + 1 if count == len(t.ties) else count)
 
 
-def cut_or_longer(rng):
-    t = rng.choice([host(rng), some_tables.zero(2), some_tables.zero(0), some_tables.normal(rng, 64, 64)])
+def any_size(rng):
+    return rng.choice([host(rng), some_tables.zero(2), some_tables.zero(0), some_tables.normal(rng, 64, 64)])
+
+
+def cut_in_fields(rng):
+    """So short that not even the tie count is there."""
+    t = any_size(rng)
+    end = tables.size(t.width, 0)
+    return TABLE, t.width, tables.body(t)[:rng.choice([0, 3, 4, end - 1, rng.randrange(end)])]
+
+
+def cut_in_ties(rng):
+    t = host(rng)
     data = tables.body(t)
-    kept = rng.choice([len(data) - 1, 0, 3, 4, tables.size(t.width, 0) - 1, rng.randrange(len(data))])
-    return TABLE, t.width, rng.choice([data[:kept], data + b"\0", data + bytes(9)])
+    return TABLE, t.width, data[:rng.choice([len(data) - 1, len(data) - 9, rng.randrange(tables.size(t.width, 0), len(data))])]
+
+
+def too_long(rng):
+    t = any_size(rng)
+    return TABLE, t.width, tables.body(t) + bytes(rng.choice([1, 2, 9]))
 
 
 def wide_table(rng):
@@ -216,7 +231,7 @@ def wide_table(rng):
     return TABLE, width, bytes(tables.size(width, 0))
 
 
-WRONG_SIZE = [too_many_ties, wrong_count, cut_or_longer, wide_table]
+WRONG_SIZE = [too_many_ties, wrong_count, cut_in_fields, cut_in_ties, too_long, wide_table]
 
 
 def part(rng, make):

@@ -30,17 +30,17 @@ def paper(rng):
 # ---- sound books
 
 def narrow(rng):
-    for _ in range(250):
+    for _ in range(400):
         yield "narrow circuits", lay([some_circuits.narrow(rng) for _ in range(rng.randint(1, 12))])
 
 
 def wide(rng):
-    for _ in range(150):
+    for _ in range(220):
         yield "wide circuits", lay([some_circuits.wide(rng) for _ in range(rng.randint(1, 4))])
 
 
 def undone(rng):
-    for _ in range(100):
+    for _ in range(150):
         yield "circuits undone", lay([some_circuits.undone(rng) for _ in range(rng.randint(1, 4))])
 
 
@@ -51,7 +51,7 @@ def long(rng):
 
 
 def tables(rng):
-    for _ in range(150):
+    for _ in range(200):
         yield "tables", lay([some_tables.any_part(rng) for _ in range(rng.randint(1, 6))])
 
 
@@ -110,7 +110,7 @@ def with_bytes_changed(rng, book, most):
 
 
 def flips(rng):
-    for _ in range(250):
+    for _ in range(500):
         yield "bytes changed", with_bytes_changed(rng, order.among(rng, [sound_part(rng)]), 3)
 
 

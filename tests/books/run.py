@@ -40,7 +40,7 @@ def by_drops(amps, book, sizes=(1, 2, 1, 5, 7, 100, 4096)):
 
 
 def without_input(amps):
-    """Standard input is closed: there are no bytes, as with an empty one."""
+    """Standard input is closed: reading it fails."""
     return ended(subprocess.run([amps], stdout=subprocess.PIPE, timeout=PATIENCE, preexec_fn=lambda: os.close(0)))
 
 

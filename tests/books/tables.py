@@ -90,7 +90,7 @@ def clauses_broken(table):
         "sign of a slot with itself": any(table.rows[v] >> v & 1 for v in slots),
         "signs not symmetric": any((table.rows[v] >> u ^ table.rows[u] >> v) & 1 for v in slots for u in range(v)),
     }
-    if table.zero:
+    if table.zero == 1:
         tests |= {
             "zero with a power": table.power != 0,
             "zero with a phase": table.phase != 0,
