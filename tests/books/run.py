@@ -1,0 +1,48 @@
+"""Running `amps`: "`amps` reads a book on standard input", and its listing comes on standard output."""
+import os
+import subprocess
+import tempfile
+import time
+
+PATIENCE = 120  # seconds
+
+
+def ended(process):
+    """(status, what was printed)"""
+    return process.returncode, process.stdout
+
+
+def by_pipe(amps, book):
+    return ended(subprocess.run([amps], input=book, stdout=subprocess.PIPE, timeout=PATIENCE))
+
+
+def by_file(amps, book):
+    with tempfile.TemporaryFile() as file:
+        file.write(book)
+        file.seek(0)
+        return ended(subprocess.run([amps], stdin=file, stdout=subprocess.PIPE, timeout=PATIENCE))
+
+
+def by_drops(amps, book, sizes=(1, 2, 1, 5, 7, 100, 4096)):
+    """The book comes in small parts with pauses between, so that a read does not get all that was asked for."""
+    process = subprocess.Popen([amps], stdin=subprocess.PIPE, stdout=subprocess.PIPE, bufsize=0)
+    left = book
+    try:
+        for size in sizes:
+            process.stdin.write(left[:size])
+            left = left[size:]
+            time.sleep(0.005)
+        process.stdin.write(left)
+    except BrokenPipeError:
+        pass  # a book that is refused early need not be read to its end
+    said, _ = process.communicate(timeout=PATIENCE)
+    return process.returncode, said
+
+
+def without_input(amps):
+    """Standard input is closed: reading it fails."""
+    return ended(subprocess.run([amps], stdout=subprocess.PIPE, timeout=PATIENCE, preexec_fn=lambda: os.close(0)))
+
+
+def with_nothing(amps):
+    return ended(subprocess.run([amps], stdin=subprocess.DEVNULL, stdout=subprocess.PIPE, timeout=PATIENCE))
