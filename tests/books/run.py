@@ -41,7 +41,27 @@ def by_drops(amps, book, sizes=(1, 2, 1, 5, 7, 100, 4096)):
 
 def without_input(amps):
     """Standard input is closed: reading it fails."""
-    return ended(subprocess.run([amps], stdout=subprocess.PIPE, timeout=PATIENCE, preexec_fn=lambda: os.close(0)))
+    return ended(subprocess.run([amps], stdout=subprocess.PIPE, stderr=subprocess.DEVNULL, timeout=PATIENCE, preexec_fn=lambda: os.close(0)))
+
+
+def with_a_folder(amps):
+    """Standard input is a folder: it opens, and reading it fails."""
+    place = os.open("/", os.O_RDONLY)
+    try:
+        return ended(subprocess.run([amps], stdin=place, stdout=subprocess.PIPE, stderr=subprocess.DEVNULL, timeout=PATIENCE))
+    finally:
+        os.close(place)
+
+
+def without_output(amps, book):
+    """Standard output is closed, or a pipe that nobody reads: the program must end all the same."""
+    subprocess.run([amps], input=book, timeout=PATIENCE, preexec_fn=lambda: os.close(1))
+    out, into = os.pipe()
+    os.close(out)
+    try:
+        subprocess.run([amps], input=book, stdout=into, timeout=PATIENCE)
+    finally:
+        os.close(into)
 
 
 def with_nothing(amps):
