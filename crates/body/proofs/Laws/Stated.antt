@@ -24,7 +24,7 @@ use Rattle.body.proofs.Laws.Padded.{length-padded, padded-in, padded-ou
 use Rattle.body.proofs.Laws.Fine.{Fine, not-refused}
 
 -- a list of 64 places that is f below n and d from there on
-pub padded-is : {A : Type 0} (d : A) (n : ℕ) (f : ℕ → A) (l : List A) → length l ≡ 64 → ((v : ℕ) → v < n → getD l v d ≡ f v) → ((v : ℕ) → n ≤ v → getD l v d ≡ d)
+padded-is : {A : Type 0} (d : A) (n : ℕ) (f : ℕ → A) (l : List A) → length l ≡ 64 → ((v : ℕ) → v < n → getD l v d ≡ f v) → ((v : ℕ) → n ≤ v → getD l v d ≡ d)
     → l ≡ padded d n f
 padded-is {A} d n f l e low high = ext-getD d l (padded d n f) (e ∙ sym (length-padded d n f)) each
   where

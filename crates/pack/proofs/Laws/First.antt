@@ -21,7 +21,7 @@ bit-first n v l =
     let e : 2 ^ n - 1 - 0 ≡ 2 ^ n - 1 = omega arith in
     omega (arith, ap (λ (m : ℕ). bit m v) e, bit-not n 0 v (pow-pos n) l, bit-of-zero v)
 
-pub rank-first : (n v : ℕ) → v ≤ n → rank (2 ^ n - 1) v ≡ v
+rank-first : (n v : ℕ) → v ≤ n → rank (2 ^ n - 1) v ≡ v
 rank-first n zero l = rank-none (2 ^ n - 1)
 rank-first n (suc v) l = omega (arith, rank-more (2 ^ n - 1) v, rank-first n v (omega arith), bit-first n v l)
 
