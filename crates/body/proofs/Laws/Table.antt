@@ -10,12 +10,12 @@ use lib.ListN.{length}
 use lib.Pow.{pow-pos, pow-mono, ones-lt}
 use Rattle.exact.specs.declared.Quarter.{Quarter}
 use Rattle.exact.proofs.Laws.Sum.{split}
+use Rattle.bits.proofs.Laws.First.{first-bit, first-above}
 use Rattle.form.specs.Form.{quarter, turnAt, rowAt}
 use Rattle.ties.specs.Ties.{maskAt, sideAt, leadAt}
 use Rattle.table.specs.Entry.{turn, row, tie, side, lead, Live, Free}
 use Rattle.table.specs.Normal.{InRange}
 use Rattle.body.specs.Body.{phaseOf, powerOf, turnOf, quarterOf, rowOf, countOf, maskOf, sideOf, formOf, tiesOf, tableOf}
-use Rattle.body.proofs.Laws.Live.{live-bit, free-bit}
 use Rattle.body.proofs.Laws.Padded.{length-padded, padded-in, padded-out}
 use Rattle.body.proofs.Laws.Fine.{Fine}
 
@@ -43,11 +43,11 @@ module _ (n : ℕ) (bs : List ℕ) where
 
   pub live-below : (v : ℕ) → v < n → Live (tableOf n bs) v
   unfolding tableOf
-  live-below v h = live-bit n v h
+  live-below v h = first-bit n v h
 
   pub free-beyond : (v : ℕ) → n ≤ v → Free (tableOf n bs) v
   unfolding tableOf
-  free-beyond v h = free-bit n v h
+  free-beyond v h = first-above n v h
 
   pub turn-beyond : (v : ℕ) → n ≤ v → turn (tableOf n bs) v ≡ 0
   unfolding tableOf formOf turnAt

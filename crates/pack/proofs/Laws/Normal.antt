@@ -8,6 +8,7 @@ use lib.Count.{ones, trailingZeros}
 use lib.Pow.{pow-mono, pow-pos}
 use Rattle.exact.proofs.Laws.Sum.{split}
 use Rattle.bits.specs.Mask.{bit}
+use Rattle.bits.proofs.Laws.First.{first-bit}
 use Rattle.bits.proofs.Laws.Bit.{bit-one, bit-full}
 use Rattle.bits.proofs.Laws.Lowest.{lowest-one}
 use Rattle.form.specs.Form.{turnAt, rowAt, signAt, Proper}
@@ -23,7 +24,6 @@ use Rattle.pack.specs.Packed.{packedForm, packedTies, packedTable}
 use Rattle.pack.proofs.Laws.Slot.{ones-rank, rank-mono, rank-above, slot-rank, rank-slot}
 use Rattle.pack.proofs.Laws.Mask.{packed-bit, packed-lt, packed-above}
 use Rattle.pack.proofs.Laws.Read.{ones-small, packed-none, turn-at, row-at, turns-long, signs-long, turn-beyond, row-beyond, sign-at, sign-out, sign-beyond, mask-at, side-at}
-use Rattle.pack.proofs.Laws.First.{bit-first}
 
 module _ (t : Table) (N : Normal t) where
   -- ---- words
@@ -168,7 +168,7 @@ module _ (t : Table) (N : Normal t) where
   free-beyond : (i : ℕ) → bit (2 ^ ones (t .live) - 1) i ≡ 0 → ones (t .live) ≤ i
   free-beyond i e =
       ⊎-elim
-      (λ (l : i < ones (t .live)). absurd (omega (arith, bit-first (ones (t .live)) i l)))
+      (λ (l : i < ones (t .live)). absurd (omega (arith, first-bit (ones (t .live)) i l)))
       (λ (l : ones (t .live) ≤ i). l)
       (split i (ones (t .live)))
 
