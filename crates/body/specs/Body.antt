@@ -1,8 +1,8 @@
 -- A table's body in a book: its fields as the bytes state them, when they are refused, and the table that they state.
 -- "Table body, n = width 0..64, live slots 0..n−1: zero mark, c, s, n bytes a, n rows of 8 bytes b, tie count, then for each tie an 8-byte mask and r."
 use mathlib.Core.Bool.{Bool, not, _||_, cond}
-use mathlib.Core.List.{List, [], _∷_}
-use Prim.Native.Nat.{ℕ, zero, suc, _+_, _-_, _*_, _^_}
+use mathlib.Core.List.{List}
+use Prim.Native.Nat.{ℕ, _+_, _-_, _*_, _^_}
 use lib.Dec.{eqb, ltb, leb}
 use lib.IntN.{ℤ, pos, _-ℤ_}
 use lib.ListN.{length}
@@ -13,6 +13,7 @@ use Rattle.ties.specs.declared.Ties.{Ties}
 use Rattle.table.specs.declared.Table.{Table}
 use Rattle.table.specs.Number.{outside}
 use Rattle.fields.specs.Bytes.{byteAt, number}
+use Rattle.fields.specs.Listed.{listed}
 use Rattle.contents.specs.Contents.{some}
 
 -- ---- the fields
@@ -81,11 +82,6 @@ bodyFault n bs =
     sizeFault n bs || headFault bs || some n (turnFault bs) || some n (rowFault n bs) || some (countOf n bs) (tieFault n bs)
 
 -- ---- the table
--- f 0, f 1, .. f (k − 1)
-unfoldable pub listed : {A : Type 0} → ℕ → (ℕ → A) → List A
-listed zero f = []
-listed (suc k) f = f 0 ∷ listed k (λ v. f (suc v))
-
 -- 64 places: f below n, and d from there on
 unfoldable pub padded : {A : Type 0} → A → ℕ → (ℕ → A) → List A
 padded d n f = listed 64 (λ v. cond (ltb v n) (f v) d)

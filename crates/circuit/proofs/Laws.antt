@@ -1,5 +1,3 @@
-pub mod Is
-pub mod Alive
 pub mod Put
 pub mod Even
 pub mod Tied

@@ -1,3 +1,4 @@
 pub mod Front
 pub mod Over
 pub mod Number
+pub mod Listed

@@ -13,7 +13,8 @@ use Rattle.contents.specs.Contents.{some}
 use Rattle.contents.proofs.Laws.Some.{or-no-left, or-no-right, some-none, none}
 use Rattle.body.specs.Body.{markOf, phaseOf, powerOf, turnOf, rowOf, countOf, maskOf, sideOf}
 use Rattle.body.specs.Body.{sizeFault, headFault, turnFault, rowFault, tieFault, bodyFault}
-use Rattle.body.proofs.Laws.Signed.{in-range, not-outside}
+use Rattle.table.proofs.Laws.Range.{inside-range}
+use Rattle.body.proofs.Laws.Signed.{not-outside}
 
 -- every field of a body of width n is in range
 pub record Fine (n : ℕ) (bs : List ℕ) : Type 0 where
@@ -51,7 +52,7 @@ module _ (n : ℕ) (bs : List ℕ) where
       let most = or-no-left (mark || phase) (outside (powerOf bs)) h in (
         ltb-false 1 (markOf bs) (or-no-left mark phase most),
         ltb-false 7 (phaseOf bs) (or-no-right mark phase most),
-        in-range (powerOf bs) (or-no-right (mark || phase) (outside (powerOf bs)) h),
+        inside-range (powerOf bs) (or-no-right (mark || phase) (outside (powerOf bs)) h),
       )
 
   turn-says : (v : ℕ) → turnFault bs v ≡ false → turnOf bs v ≤ 3

@@ -1,8 +1,8 @@
--- Lists of 64 places: what stands where, and one place more filled. By induction on the places, and place by place.
+-- Lists of 64 places: what stands where, and one place more filled. Place by place.
 use mathlib.Core.Path.{_≡_, refl, sym, ap, _∙_}
 use mathlib.Core.Bool.{Bool, cond}
 use mathlib.Core.Logic.{⊎-elim, _≢_}
-use Prim.Native.Nat.{ℕ, zero, suc, _+_, _≤_, _<_}
+use Prim.Native.Nat.{ℕ, _+_, _≤_, _<_}
 use native.Mathlib.Omega.{arith}
 use lib.Dec.{ltb}
 use lib.ListN.{length, getD, set, replicate, length-set, List·getD-eq-default}
@@ -10,19 +10,9 @@ use lib.Seq.{ext-getD, getD-set-same, getD-set-other}
 use borrow.Author.Tests.{lt-ltb, le-ltb}
 use Rattle.exact.proofs.Laws.Sum.{split}
 use Rattle.bits.proofs.Laws.Bit.{same-or}
-use Rattle.body.specs.Body.{listed, padded}
-
-module _ {A : Type 0} where
-  length-listed : (k : ℕ) (f : ℕ → A) → length (listed k f) ≡ k
-  unfolding listed
-  length-listed zero f = refl
-  length-listed (suc k) f = ap suc (length-listed k (λ v. f (suc v)))
-
-  listed-at : (k : ℕ) (f : ℕ → A) (d : A) (v : ℕ) → v < k → getD (listed k f) v d ≡ f v
-  unfolding listed
-  listed-at zero f d v h = absurd (omega arith)
-  listed-at (suc k) f d zero h = refl
-  listed-at (suc k) f d (suc v) h = listed-at k (λ u. f (suc u)) d v (omega arith)
+use Rattle.fields.specs.Listed.{listed}
+use Rattle.fields.proofs.Laws.Listed.{length-listed, listed-at}
+use Rattle.body.specs.Body.{padded}
 
 module _ {A : Type 0} (d : A) (n : ℕ) (f : ℕ → A) where
   pub length-padded : length (padded d n f) ≡ 64
@@ -31,7 +21,7 @@ module _ {A : Type 0} (d : A) (n : ℕ) (f : ℕ → A) where
 
   place : (v : ℕ) → v < 64 → getD (padded d n f) v d ≡ cond (ltb v n) (f v) d
   unfolding padded
-  place v h = listed-at 64 (λ u. cond (ltb u n) (f u) d) d v h
+  place v h = listed-at d 64 (λ u. cond (ltb u n) (f u) d) v h
 
   -- below n, what f says
   pub padded-in : (v : ℕ) → v < n → v < 64 → getD (padded d n f) v d ≡ f v

@@ -8,7 +8,7 @@ use lib.Signed.{ltZ}
 use mir.Facts.{toZ-pos}
 use mir.Syntax.{w32}
 use mir.Val.{SFits, toZ}
-use borrow.Author.Tests.{lt-ltb, le-ltb, le-leb, lt-leb, ltb-true, ltb-false, leb-false}
+use borrow.Author.Tests.{lt-ltb, le-ltb, le-leb, lt-leb, ltb-true, ltb-false}
 use Rattle.table.specs.Number.{outside}
 use Rattle.table.specs.Normal.{InRange}
 use Rattle.body.specs.Body.{signed16}
@@ -44,11 +44,6 @@ outside-low (negsuc n) h = sym (le-leb 2000 n (omega (arith, ltb-true 1999 n h))
 pub outside-high : (z : ℤ) → ltZ z (negsuc 1999) ≡ false → ltZ (pos 2000) z ≡ outside z
 outside-high (pos n) h = refl
 outside-high (negsuc n) h = sym (lt-leb 2000 n (omega (arith, ltb-false 1999 n h)))
-
--- a power that is not out of range is in it
-pub in-range : (z : ℤ) → outside z ≡ false → InRange z
-in-range (pos n) h = ltb-false 2000 n h
-in-range (negsuc n) h = omega (arith, leb-false 2000 n h)
 
 pub not-outside : (z : ℤ) → InRange z → outside z ≡ false
 not-outside (pos n) h = le-ltb 2000 n h

@@ -10,21 +10,19 @@ use lib.ListN.{length, getD}
 use lib.Seq.{ext-getD}
 use Rattle.exact.specs.Refusal.{accepted}
 use Rattle.exact.proofs.Laws.Sum.{split}
-use Rattle.bits.specs.Mask.{bit}
-use Rattle.bits.proofs.Laws.Bit.{bit-of-zero}
-use Rattle.form.specs.Form.{quarter, turnAt, rowAt, signAt}
+use Rattle.form.specs.Form.{quarter, turnAt, rowAt}
 use Rattle.ties.specs.Ties.{maskAt, sideAt}
 use Rattle.table.specs.declared.Table.{Table}
-use Rattle.table.specs.Entry.{turn, row, tie, side, ties, Free}
+use Rattle.table.specs.Entry.{turn, row, tie, side, ties}
 use Rattle.table.specs.Normal.{Normal, InRange}
+use Rattle.table.proofs.Laws.First.{free-from, row-low, tie-low}
 use Rattle.body.specs.Body.{markOf, phaseOf, powerOf, turnOf, quarterOf, rowOf, countOf, maskOf, sideOf, padded, formOf, tiesOf, tableOf}
 use Rattle.body.specs.Read.{Reading, reading, Reads}
-use Rattle.body.proofs.Laws.Live.{free-bit, low-only}
 use Rattle.body.proofs.Laws.Padded.{length-padded, padded-in, padded-out}
 use Rattle.body.proofs.Laws.Fine.{Fine, not-refused}
 
 -- a list of 64 places that is f below n and d from there on
-pub padded-is : {A : Type 0} (d : A) (n : ℕ) (f : ℕ → A) (l : List A) → length l ≡ 64 → ((v : ℕ) → v < n → getD l v d ≡ f v) → ((v : ℕ) → n ≤ v → getD l v d ≡ d)
+padded-is : {A : Type 0} (d : A) (n : ℕ) (f : ℕ → A) (l : List A) → length l ≡ 64 → ((v : ℕ) → v < n → getD l v d ≡ f v) → ((v : ℕ) → n ≤ v → getD l v d ≡ d)
     → l ≡ padded d n f
 padded-is {A} d n f l e low high = ext-getD d l (padded d n f) (e ∙ sym (length-padded d n f)) each
   where
@@ -49,17 +47,14 @@ pub record States (n : ℕ) (bs : List ℕ) (t : Table) : Type 0 where
   pub side : (j : ℕ) → j < ties t → side t j ≡ sideOf n bs j
 
 module _ (n : ℕ) (bs : List ℕ) (t : Table) (m : Normal t) (s : States n bs t) where
-  free-slot : (v : ℕ) → n ≤ v → Free t v
-  free-slot v h = ap (λ (l : ℕ). bit l v) (s .live) ∙ free-bit n v h
-
   turns-are : t .form .turns ≡ padded (quarter 0) n (quarterOf bs)
   unfolding turnAt
   turns-are =
-      padded-is (quarter 0) n (quarterOf bs) (t .form .turns) (m .proper .turns-are) (λ v h. ap quarter (s .turn v h)) (λ v h. ap quarter (m .free-turn v (free-slot v h)))
+      padded-is (quarter 0) n (quarterOf bs) (t .form .turns) (m .proper .turns-are) (λ v h. ap quarter (s .turn v h)) (λ v h. ap quarter (m .free-turn v (free-from t m n (s .live) v h)))
 
   signs-are : t .form .signs ≡ padded 0 n (rowOf n bs)
   unfolding rowAt
-  signs-are = padded-is 0 n (rowOf n bs) (t .form .signs) (m .proper .signs-are) (s .row) (λ v h. m .free-row v (free-slot v h))
+  signs-are = padded-is 0 n (rowOf n bs) (t .form .signs) (m .proper .signs-are) (s .row) (λ v h. m .free-row v (free-from t m n (s .live) v h))
 
   masks-are : t .ties .masks ≡ padded 0 (countOf n bs) (maskOf n bs)
   unfolding maskAt
@@ -96,14 +91,6 @@ module _ (n : ℕ) (bs : List ℕ) (t : Table) (m : Normal t) (s : States n bs t
     ties = record { count = s .count i; masks = masks-are i; sides = sides-are i };
   }
 
-  -- ---- a row or a mask of t has no bit at or above n
-  row-low : (v : ℕ) → row t v < 2 ^ n
-  unfolding signAt
-  row-low v = low-only n (row t v) (m .proper .row-range v) (λ u h. m .proper .even u v ∙ ap (λ (r : ℕ). bit r v) (m .free-row u (free-slot u h)) ∙ bit-of-zero v)
-
-  tie-low : (j : ℕ) → tie t j < 2 ^ n
-  tie-low j = low-only n (tie t j) (m .reduced .mask-range j) (λ u h. m .free-tie j u (free-slot u h))
-
   -- a body that states t is not refused by 11
   pub stated-fine : n ≤ 64 → ties t ≤ n → Fine n bs
   stated-fine w f = record {
@@ -114,8 +101,8 @@ module _ (n : ℕ) (bs : List ℕ) (t : Table) (m : Normal t) (s : States n bs t
     phase = subst (λ (c : ℕ). c < 8) (s .phase) (m .proper .phase-range);
     power = subst InRange (s .power) (m .power-range);
     turn = λ v h. subst (λ (a : ℕ). a < 4) (s .turn v h) (m .proper .turn-range v);
-    row = λ v h. subst (λ (r : ℕ). r < 2 ^ n) (s .row v h) (row-low v);
-    mask = λ j h. subst (λ (r : ℕ). r < 2 ^ n) (s .tie j (omega (arith, s .count))) (tie-low j);
+    row = λ v h. subst (λ (r : ℕ). r < 2 ^ n) (s .row v h) (row-low t m n (s .live) v);
+    mask = λ j h. subst (λ (r : ℕ). r < 2 ^ n) (s .tie j (omega (arith, s .count))) (tie-low t m n (s .live) j);
     side = λ j h. subst (λ (r : ℕ). r < 2) (s .side j (omega (arith, s .count))) (m .reduced .side-range j);
   }
 

@@ -6,17 +6,16 @@ use Prim.Native.Nat.{ℕ, _-_, _^_, _≤_, _<_}
 use native.Mathlib.Nat.{lt-of-lt-of-le}
 use native.Mathlib.Omega.{arith}
 use lib.Count.{trailingZeros}
-use lib.Dec.{eqb}
 use lib.ListN.{length}
 use lib.Pow.{pow-pos, pow-mono, ones-lt}
 use Rattle.exact.specs.declared.Quarter.{Quarter}
 use Rattle.exact.proofs.Laws.Sum.{split}
+use Rattle.bits.proofs.Laws.First.{first-bit, first-above}
 use Rattle.form.specs.Form.{quarter, turnAt, rowAt}
 use Rattle.ties.specs.Ties.{maskAt, sideAt, leadAt}
-use Rattle.table.specs.Entry.{turn, row, tie, side, lead, ties, Live, Free}
+use Rattle.table.specs.Entry.{turn, row, tie, side, lead, Live, Free}
 use Rattle.table.specs.Normal.{InRange}
-use Rattle.body.specs.Body.{markOf, phaseOf, powerOf, turnOf, quarterOf, rowOf, countOf, maskOf, sideOf, formOf, tiesOf, tableOf}
-use Rattle.body.proofs.Laws.Live.{live-bit, free-bit}
+use Rattle.body.specs.Body.{phaseOf, powerOf, turnOf, quarterOf, rowOf, countOf, maskOf, sideOf, formOf, tiesOf, tableOf}
 use Rattle.body.proofs.Laws.Padded.{length-padded, padded-in, padded-out}
 use Rattle.body.proofs.Laws.Fine.{Fine}
 
@@ -30,18 +29,6 @@ module _ (n : ℕ) (bs : List ℕ) where
   unfolding tableOf formOf
   signs-long = length-padded 0 n (rowOf n bs)
 
-  pub masks-long : length (tableOf n bs .ties .masks) ≡ 64
-  unfolding tableOf tiesOf
-  masks-long = length-padded 0 (countOf n bs) (maskOf n bs)
-
-  pub sides-long : length (tableOf n bs .ties .sides) ≡ 64
-  unfolding tableOf tiesOf
-  sides-long = length-padded 0 (countOf n bs) (sideOf n bs)
-
-  pub zero-is : tableOf n bs .zero ≡ eqb (markOf bs) 1
-  unfolding tableOf
-  zero-is = refl
-
   pub power-is : tableOf n bs .power .0 ≡ powerOf bs
   unfolding tableOf
   power-is = refl
@@ -50,21 +37,17 @@ module _ (n : ℕ) (bs : List ℕ) where
   unfolding tableOf formOf
   phase-is = refl
 
-  pub ties-is : ties (tableOf n bs) ≡ countOf n bs
-  unfolding tableOf tiesOf
-  ties-is = refl
-
   pub live-is : tableOf n bs .live ≡ 2 ^ n - 1
   unfolding tableOf
   live-is = refl
 
   pub live-below : (v : ℕ) → v < n → Live (tableOf n bs) v
   unfolding tableOf
-  live-below v h = live-bit n v h
+  live-below v h = first-bit n v h
 
   pub free-beyond : (v : ℕ) → n ≤ v → Free (tableOf n bs) v
   unfolding tableOf
-  free-beyond v h = free-bit n v h
+  free-beyond v h = first-above n v h
 
   pub turn-beyond : (v : ℕ) → n ≤ v → turn (tableOf n bs) v ≡ 0
   unfolding tableOf formOf turnAt
@@ -121,7 +104,7 @@ module _ (n : ℕ) (bs : List ℕ) where
     turn-range v =
         ⊎-elim (λ (h : v < n). omega (arith, turn-is v h, f .turn v h)) (λ (h : n ≤ v). omega (arith, turn-beyond v h)) (split v n)
 
-    pub row-within : (v : ℕ) → row (tableOf n bs) v < 2 ^ n
+    row-within : (v : ℕ) → row (tableOf n bs) v < 2 ^ n
     row-within v =
         ⊎-elim
         (λ (h : v < n). omega (arith, row-is v h, f .row v h))
@@ -130,16 +113,6 @@ module _ (n : ℕ) (bs : List ℕ) where
 
     pub row-range : (v : ℕ) → row (tableOf n bs) v < 2 ^ 64
     row-range v = lt-of-lt-of-le (row-within v) (pow-mono (f .narrow))
-
-    pub tie-within : (j : ℕ) → tie (tableOf n bs) j < 2 ^ n
-    tie-within j =
-        ⊎-elim
-        (λ (h : j < countOf n bs). omega (arith, tie-is j h, f .mask j h))
-        (λ (h : countOf n bs ≤ j). omega (arith, tie-beyond j h, pow-pos n))
-        (split j (countOf n bs))
-
-    pub tie-range : (j : ℕ) → tie (tableOf n bs) j < 2 ^ 64
-    tie-range j = lt-of-lt-of-le (tie-within j) (pow-mono (f .narrow))
 
     pub side-range : (j : ℕ) → side (tableOf n bs) j < 2
     side-range j =

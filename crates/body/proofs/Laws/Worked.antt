@@ -10,7 +10,8 @@ use Rattle.contents.specs.Contents.{some}
 use Rattle.form.specs.Form.{turnAt, rowAt}
 use Rattle.ties.specs.Ties.{maskAt, sideAt}
 use Rattle.body.specs.Body.{bodyFault, sizeFault, headFault, turnFault, rowFault, tieFault}
-use Rattle.body.specs.Body.{signed16, listed, padded, formOf, tiesOf, tableOf}
+use Rattle.fields.specs.Listed.{listed}
+use Rattle.body.specs.Body.{signed16, padded, formOf, tiesOf, tableOf}
 
 -- zero mark, c and s; two turns; two rows; the tie count; the tie of the slots 0 and 1 with r = 1
 abbrev body : List ℕ

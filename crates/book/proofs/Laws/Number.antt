@@ -14,7 +14,7 @@ use Rattle.book.specs.Book.{bodyBytes, circuitBodyNumber, BodyNumber, Cl
 use Rattle.book.specs.Read.{Body, saidNumber, CircuitAnswer, TableAnswer, BodyAnswer}
 
 -- ---- the part of the book that is lent
-pub part-law : (bs : List ℕ) (j : ℕ) (e : Entry) → e ≡ entryOf bs j → take (e .start + e .length - e .start) (drop (e .start) bs) ≡ bodyBytes bs j
+part-law : (bs : List ℕ) (j : ℕ) (e : Entry) → e ≡ entryOf bs j → take (e .start + e .length - e .start) (drop (e .start) bs) ≡ bodyBytes bs j
 unfolding bodyBytes
 part-law bs j e is =
     let q : e .start + e .length - e .start ≡ e .length = omega arith in

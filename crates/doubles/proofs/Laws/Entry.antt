@@ -9,13 +9,12 @@ use Rattle.exact.specs.declared.Answer.the-variants.{Refused as NotGiven, Is as
 use Rattle.exact.specs.Answer.{numberOf}
 use Rattle.exact.specs.declared.Amount.{Amount}
 use Rattle.exact.specs.declared.Amount.the-variants.{Zero as NoAmount, Some}
-use Rattle.exact.specs.Refusal.{accepted, notNormal}
+use Rattle.exact.specs.Refusal.{accepted}
 use Rattle.bits.specs.Mask.{bit}
 use Rattle.bits.proofs.Laws.Bit.{same-or}
 use Rattle.table.specs.declared.Table.{Table}
 use Rattle.table.specs.Entry.{entry}
 use Rattle.table.specs.Normal.{Normal}
-use Rattle.table.specs.Number.{entryNumber}
 use Rattle.table.specs.Answers.{EntryAt}
 use Rattle.doubles.specs.Answer.{Doubles, Answer, answer, partsOf, answerOf, answerFor}
 use Rattle.doubles.specs.Entry.{DoublesAt}

@@ -6,7 +6,7 @@ use native.Mathlib.Nat.{le-of-eq}
 use native.Mathlib.Numerals.{add-one}
 use native.Mathlib.Omega.{arith}
 use lib.ListN.{length, take, drop, getD, set, length-append, length-drop, take-append-drop, drop-of-length-le, List·getD-append}
-use lib.Seq.{take-at, drop-at, drop-drop, take-suc-set, drop-set-lt, take-suc, drop-cons, set-at, length-take-le, take-all, getD-append-add, getD-drop}
+use lib.Seq.{take-at, drop-at, drop-drop, take-suc-set, drop-set-lt, drop-cons, set-at, take-all, getD-append-add, getD-drop}
 use Rattle.fields.specs.Bytes.{le, front}
 
 pub length-le : (k v : ℕ) → length (le k v) ≡ k
@@ -36,10 +36,6 @@ module _ (xs bs : List ℕ) where
   unfolding front
   take-front n e = take-at bs (drop (length bs) xs) n e
 
-  pub drop-front : (n : ℕ) → length bs ≡ n → drop n (front xs bs) ≡ drop n xs
-  unfolding front
-  drop-front n e = drop-at bs (drop (length bs) xs) n e ∙ ap (λ (k : ℕ). drop k xs) e
-
 pub front-none : (xs : List ℕ) → xs ≡ front xs []
 unfolding front
 front-none xs = refl
@@ -62,12 +58,6 @@ front-store xs bs i a e h =
     ∙ set-at bs (getD xs i 0) (drop (suc i) xs) a i e
     ∙ sym (append-assoc bs (a ∷ []) (drop (suc i) xs))
     ∙ ap (λ (k : ℕ). (bs ++ (a ∷ [])) ++ drop k xs) (sym (length-append bs (a ∷ []) ∙ ap (λ (k : ℕ). k + 1) e ∙ add-one i))
-
--- the first bytes of ts, one more of them
-pub front-next : (xs ts : List ℕ) (i : ℕ) → i < length ts → i < length xs → set (front xs (take i ts)) i (getD ts i 0) ≡ front xs (take (i + 1) ts)
-front-next xs ts i h g =
-    front-store xs (take i ts) i (getD ts i 0) (length-take-le i ts (omega arith)) g
-    ∙ ap (λ (l : List ℕ). front xs l) (sym (take-suc ts i 0 h) ∙ ap (λ (k : ℕ). take k ts) (sym (add-one i)))
 
 -- ---- a part from a place on, lent to the end of the list: what it is, and the list when it came back as ys
 pub lent-part : (xs : List ℕ) (at : ℕ) → take (length xs - at) (drop at xs) ≡ drop at xs

@@ -38,10 +38,6 @@ unfolding number
 number-beyond zero bs at h = refl
 number-beyond (suc k) bs at h = omega (arith, number-beyond k bs (suc at) (omega arith), List·getD-eq-default bs 0 h)
 
-pub number-one : (bs : List ℕ) (at : ℕ) → number 1 bs at ≡ byteAt bs at
-unfolding number
-number-one bs at = omega arith
-
 pub number-lt : (k : ℕ) (bs : List ℕ) (at : ℕ) → ((i : ℕ) → byteAt bs i < 256) → number k bs at < 256 ^ k
 unfolding number
 number-lt zero bs at h = omega arith

@@ -15,7 +15,7 @@ module _ (P : ℕ → Type 0) (low : (n : ℕ) → n < 10 → P n) (high : (n : 
   upto zero n h = low n (omega arith)
   upto (suc k) n h = ⊎-elim (λ (s : n < 10). low n s) (λ (s : 10 ≤ n). high n s (upto k (n / 10) (omega arith))) (split n 10)
 
-  pub by-tenths : (n : ℕ) → P n
+  by-tenths : (n : ℕ) → P n
   by-tenths n = upto n n (omega arith)
 
 -- a text of digits read from the left, behind a number that was read already

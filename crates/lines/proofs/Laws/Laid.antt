@@ -58,11 +58,6 @@ pub laid-place : {xs text ys : List ℕ} {at r : ℕ} → Laid xs at text ys r �
 unfolding after
 laid-place l h = omega (arith, l .place)
 
--- a place that is not above the area's length says that the text fits
-pub laid-seen : {xs text ys : List ℕ} {at r : ℕ} → Laid xs at text ys r → r ≤ length xs → length xs < top → at + length text ≤ length xs
-unfolding after
-laid-seen l h g = omega (arith, l .place)
-
 -- a text that fits from the front on stands there, up to the place
 pub laid-front : {xs text ys : List ℕ} {r : ℕ} → Laid xs 0 text ys r → length text ≤ length xs → length xs ≤ top → take r ys ≡ text
 laid-front {xs} {text} {ys} {r} l h g =

@@ -31,7 +31,7 @@ pub overlaid-before : (xs : List ℕ) (at : ℕ) (bs : List ℕ) → take at (ov
 overlaid-before xs at bs = stays at xs at bs (omega arith)
 
 -- texts at consecutive places are one text
-pub overlaid-more : (xs : List ℕ) (at : ℕ) (bs cs : List ℕ) → overlaid (overlaid xs at bs) (at + length bs) cs ≡ overlaid xs at (bs ++ cs)
+overlaid-more : (xs : List ℕ) (at : ℕ) (bs cs : List ℕ) → overlaid (overlaid xs at bs) (at + length bs) cs ≡ overlaid xs at (bs ++ cs)
 unfolding overlaid
 overlaid-more xs at [] cs = ap (λ (p : ℕ). overlaid xs p cs) (omega arith)
 overlaid-more xs at (b ∷ bs) cs =
@@ -44,7 +44,7 @@ unfolding overlaid
 is-sets xs at [] = refl
 is-sets xs at (b ∷ bs) = is-sets (set xs at b) (suc at) bs
 
-pub overlaid-fits : (xs : List ℕ) (at : ℕ) (bs : List ℕ) → at + length bs ≤ length xs → overlaid xs at bs ≡ take at xs ++ bs ++ drop (at + length bs) xs
+overlaid-fits : (xs : List ℕ) (at : ℕ) (bs : List ℕ) → at + length bs ≤ length xs → overlaid xs at bs ≡ take at xs ++ bs ++ drop (at + length bs) xs
 overlaid-fits xs at bs h = is-sets xs at bs ∙ sets-eq bs xs at h
 
 -- at the front, the area begins with the text

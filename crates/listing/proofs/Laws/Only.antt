@@ -1,11 +1,10 @@
 -- No second listing: of the text, and of what stands in the area and is answered. By the same of the book's number and of each body.
 use mathlib.Core.List.{List, _++_}
 use mathlib.Core.Logic.{_≢_, ⊎-elim}
-use mathlib.Core.Path.{_≡_, refl, sym, ap, _∙_, subst}
+use mathlib.Core.Path.{_≡_, sym, ap, _∙_}
 use Prim.Native.Nat.{ℕ}
 use Rattle.bits.proofs.Laws.Bit.{same-or}
 use Rattle.contents.specs.Contents.{countOf}
-use Rattle.lines.specs.Overlay.{Laid}
 use Rattle.lines.specs.Lines.{bookLine, refusedLine}
 use Rattle.lines.proofs.Laws.Laid.{laid-text, no-second}
 use Rattle.book.proofs.Laws.Only.{one-number, one-body}

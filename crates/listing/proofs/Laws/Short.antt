@@ -3,14 +3,13 @@ use mathlib.Core.Bool.{Bool, true, false, cond}
 use mathlib.Core.List.{List, _++_}
 use mathlib.Core.Logic.{_≢_, ⊎-elim}
 use mathlib.Core.Path.{_≡_, refl, sym, ap, subst, _∙_}
-use Prim.Native.Nat.{ℕ, zero, suc, _+_, _*_, _≤_, _<_}
+use Prim.Native.Nat.{ℕ, zero, suc, _*_, _≤_, _<_}
 use native.Mathlib.Omega.{arith}
 use lib.Count.{ones, ones-le}
 use lib.IntN.{ℤ, pos, negsuc, natAbs}
 use lib.ListN.{length, length-append}
 use Rattle.exact.specs.declared.Amount.{Amount}
 use Rattle.exact.specs.declared.Amount.the-variants.{Zero, Some}
-use Rattle.exact.specs.declared.Answer.the-variants.{Is}
 use Rattle.exact.specs.Amount.{none, some, Small}
 use Rattle.bits.proofs.Laws.Bit.{same-or}
 use Rattle.table.specs.declared.Table.{Table}
@@ -21,11 +20,11 @@ use Rattle.circuit.specs.Run.{Near}
 use Rattle.contents.specs.Contents.{countOf, widthOf, entryOf}
 use Rattle.contents.proofs.Laws.Good.{good}
 use Rattle.body.specs.Body.{bodyFault, tableOf}
-use Rattle.lines.specs.Lines.{bookLine, circuitLine, tableLine, refusedLine}
+use Rattle.lines.specs.Lines.{bookLine, refusedLine}
 use Rattle.lines.proofs.Laws.Lengths.{InRange, book-length, circuit-length, table-length, refused-length}
 use Rattle.book.specs.declared.Body.{Body}
 use Rattle.book.specs.Book.{BookNumber, bodyBytes, circuitBodyNumber}
-use Rattle.book.specs.Read.{refusal, amplitude, whole, saidNumber, saidAmount, CircuitAnswer, TableAnswer, ReadsBody}
+use Rattle.book.specs.Read.{refusal, whole, saidNumber, saidAmount, CircuitAnswer, TableAnswer, ReadsBody}
 use Rattle.book.proofs.Laws.Number.{contents-good}
 use Rattle.book.proofs.Laws.Only.{one-number}
 use Rattle.listing.specs.Listing.{tableAmount, bodyLine, bodyLines}

@@ -20,7 +20,7 @@ use Rattle.book.specs.Read.{refusal, ReadsBody}
 use Rattle.contents.proofs.Laws.Good.{good}
 use Rattle.book.proofs.Laws.Number.{contents-good}
 use Rattle.book.proofs.Laws.Read.{reads-refused}
-use Rattle.listing.specs.Listing.{bodyLine, bodyLines, Listing, Listed}
+use Rattle.listing.specs.Listing.{bodyLine, bodyLines, Listed}
 use Rattle.listing.proofs.Laws.Short.{listed-short, refused-short}
 
 -- a good book has at most 16 bodies

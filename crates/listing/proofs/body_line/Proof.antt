@@ -6,7 +6,6 @@ use Prim.Native.Nat.{ℕ}
 use Rattle.exact.specs.declared.Amount.{Amount}
 use Rattle.table.specs.Entry.{ties}
 use Rattle.lines.specs.Lines.{tableLine}
-use Rattle.table.specs.declared.Table.{Table}
 use Rattle.book.specs.declared.Said.{Said}
 use Rattle.lines.proofs.Laws.Laid.{laid-none, laid-text}
 use Rattle.listing.specs.Listing.{bodyLine}

@@ -1,7 +1,7 @@
 -- `listing::list` meets its contract: the invariant says that the first line and those of the first j bodies are written.
 use borrow.Author.Needs.{needs}
 use native.Mathlib.Omega.{arith}
-use mathlib.Core.Path.{_≡_, refl, sym, ap, _∙_}
+use mathlib.Core.Path.{ap, _∙_}
 use Prim.Native.Nat.{_≤_, _-_}
 use lib.ListN.{length}
 use Rattle.lines.specs.Overlay.{top}

@@ -9,6 +9,7 @@ use lib.Dec.{eqb}
 use Rattle.exact.specs.Amount.{none, some}
 use Rattle.exact.proofs.Laws.Sum.{split}
 use Rattle.bits.specs.Mask.{bit, parity}
+use Rattle.bits.proofs.Laws.First.{first-bit}
 use Rattle.bits.proofs.Laws.Bit.{bit-lt, bit-above, bit-inside}
 use Rattle.form.specs.Form.{phase, phaseAt, turnAt, signAt}
 use Rattle.ties.specs.Ties.{maskAt, held}
@@ -21,7 +22,6 @@ use Rattle.pack.specs.Packed.{packedForm, packedTies, packedTable, unpac
 use Rattle.pack.proofs.Laws.Slot.{slot-rank}
 use Rattle.pack.proofs.Laws.Read.{ones-small, slot-beyond, turn-at, turn-beyond, sign-at, sign-beyond, mask-at, side-at}
 use Rattle.pack.proofs.Laws.Sum.{sum-packed, packed-parity, pairs-packed}
-use Rattle.pack.proofs.Laws.First.{bit-first}
 
 module _ (t : Table) (N : Normal t) where
   module _ (y : ℕ → ℕ) where
@@ -73,7 +73,7 @@ module _ (t : Table) (N : Normal t) where
       small = λ i. A .small (slotAt (t .live) i);
       within = λ i free.
           ⊎-elim
-          (λ (l : i < ones (t .live)). absurd (omega (arith, bit-first (ones (t .live)) i l)))
+          (λ (l : i < ones (t .live)). absurd (omega (arith, first-bit (ones (t .live)) i l)))
           (λ (l : ones (t .live) ≤ i). ap x (slot-beyond (t .live) i (N .live-range) l) ∙ A .within 64 (bit-above 64 (t .live) 64 (N .live-range) (omega arith)))
           (split i (ones (t .live)));
     }

@@ -6,7 +6,8 @@ use native.Mathlib.Omega.{arith}
 use lib.Count.{ones}
 use lib.Pow.{pow-pos}
 use Rattle.bits.specs.Mask.{bit}
-use Rattle.bits.proofs.Laws.Bit.{bit-not, bit-of-zero, bit-ext}
+use Rattle.bits.proofs.Laws.First.{first-bit}
+use Rattle.bits.proofs.Laws.Bit.{bit-ext}
 use Rattle.bits.proofs.Laws.Parity.{ones-total}
 use Rattle.table.specs.declared.Table.{Table}
 use Rattle.table.specs.Entry.{turn, row, tie, side, ties}
@@ -16,21 +17,16 @@ use Rattle.pack.proofs.Laws.Slot.{rank-none, rank-more, slot-rank}
 use Rattle.pack.proofs.Laws.Mask.{packed-bit, packed-lt}
 use Rattle.pack.proofs.Laws.Body.{fields-ext}
 
-pub bit-first : (n v : ℕ) → v < n → bit (2 ^ n - 1) v ≡ 1
-bit-first n v l =
-    let e : 2 ^ n - 1 - 0 ≡ 2 ^ n - 1 = omega arith in
-    omega (arith, ap (λ (m : ℕ). bit m v) e, bit-not n 0 v (pow-pos n) l, bit-of-zero v)
-
-pub rank-first : (n v : ℕ) → v ≤ n → rank (2 ^ n - 1) v ≡ v
+rank-first : (n v : ℕ) → v ≤ n → rank (2 ^ n - 1) v ≡ v
 rank-first n zero l = rank-none (2 ^ n - 1)
-rank-first n (suc v) l = omega (arith, rank-more (2 ^ n - 1) v, rank-first n v (omega arith), bit-first n v l)
+rank-first n (suc v) l = omega (arith, rank-more (2 ^ n - 1) v, rank-first n v (omega arith), first-bit n v l)
 
 pub ones-first : (n : ℕ) → ones (2 ^ n - 1) ≡ n
 ones-first n = ones-total n (2 ^ n - 1) (omega (arith, pow-pos n)) ∙ rank-first n n (omega arith)
 
 pub slot-first : (n i : ℕ) → n ≤ 64 → i < n → slotAt (2 ^ n - 1) i ≡ i
 slot-first n i h l =
-    ap (slotAt (2 ^ n - 1)) (sym (rank-first n i (omega arith))) ∙ slot-rank (2 ^ n - 1) i (omega arith) (bit-first n i l)
+    ap (slotAt (2 ^ n - 1)) (sym (rank-first n i (omega arith))) ∙ slot-rank (2 ^ n - 1) i (omega arith) (first-bit n i l)
 
 pub packed-first : (n m : ℕ) → n ≤ 64 → m < 2 ^ n → packedMask (2 ^ n - 1) m ≡ m
 packed-first n m h k =

@@ -56,7 +56,7 @@ pub to-none : (live m : ℕ) → 0 ≡ packedTo live m 0
 unfolding packedTo digits total
 to-none live m = refl
 
-pub to-lt : (live m i r : ℕ) → r ≡ packedTo live m i → r < 2 ^ i
+to-lt : (live m i r : ℕ) → r ≡ packedTo live m i → r < 2 ^ i
 unfolding packedTo
 to-lt live m i r e = rw e (digits-lt i (λ j. bit m (slotAt live j)) (λ j. bit-lt m (slotAt live j)))
 

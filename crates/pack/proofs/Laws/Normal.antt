@@ -8,6 +8,7 @@ use lib.Count.{ones, trailingZeros}
 use lib.Pow.{pow-mono, pow-pos}
 use Rattle.exact.proofs.Laws.Sum.{split}
 use Rattle.bits.specs.Mask.{bit}
+use Rattle.bits.proofs.Laws.First.{first-bit}
 use Rattle.bits.proofs.Laws.Bit.{bit-one, bit-full}
 use Rattle.bits.proofs.Laws.Lowest.{lowest-one}
 use Rattle.form.specs.Form.{turnAt, rowAt, signAt, Proper}
@@ -17,17 +18,16 @@ use Rattle.ties.proofs.Laws.Lead.{lead-lt, lead-bit, lead-below}
 use Rattle.table.specs.declared.Table.{Table}
 use Rattle.table.specs.Entry.{ties}
 use Rattle.table.specs.Normal.{Normal}
+use Rattle.fields.proofs.Laws.Listed.{length-listed}
 use Rattle.pack.specs.Slot.{rank, slotAt, packedMask}
 use Rattle.pack.specs.Packed.{packedForm, packedTies, packedTable}
 use Rattle.pack.proofs.Laws.Slot.{ones-rank, rank-mono, rank-above, slot-rank, rank-slot}
 use Rattle.pack.proofs.Laws.Mask.{packed-bit, packed-lt, packed-above}
-use Rattle.pack.proofs.Laws.Packed.{length-listed}
 use Rattle.pack.proofs.Laws.Read.{ones-small, packed-none, turn-at, row-at, turns-long, signs-long, turn-beyond, row-beyond, sign-at, sign-out, sign-beyond, mask-at, side-at}
-use Rattle.pack.proofs.Laws.First.{bit-first}
 
 module _ (t : Table) (N : Normal t) where
   -- ---- words
-  pub packed-word : (m : ℕ) → packedMask (t .live) m < 2 ^ 64
+  packed-word : (m : ℕ) → packedMask (t .live) m < 2 ^ 64
   packed-word m = lt-of-lt-of-le (packed-lt (t .live) m) (pow-mono (ones-small (t .live) (N .live-range)))
 
   -- ---- leads
@@ -53,7 +53,7 @@ module _ (t : Table) (N : Normal t) where
         absurd (omega (arith, rank-mono (t .live) (leadAt (t .ties) j) (slotAt (t .live) u) q, rank-slot (t .live) (N .live-range) u (omega (arith, lead-rank)))))
         (split (slotAt (t .live) u) (leadAt (t .ties) j))
 
-    pub lead-packed : leadAt (packedTies (t .live) (t .ties)) j ≡ rank (t .live) (leadAt (t .ties) j)
+    lead-packed : leadAt (packedTies (t .live) (t .ties)) j ≡ rank (t .live) (leadAt (t .ties) j)
     unfolding leadAt
     lead-packed =
         ap (trailingZeros 64) (mask-at (t .live) (t .ties) (N .reduced .masks-are) j)
@@ -168,7 +168,7 @@ module _ (t : Table) (N : Normal t) where
   free-beyond : (i : ℕ) → bit (2 ^ ones (t .live) - 1) i ≡ 0 → ones (t .live) ≤ i
   free-beyond i e =
       ⊎-elim
-      (λ (l : i < ones (t .live)). absurd (omega (arith, bit-first (ones (t .live)) i l)))
+      (λ (l : i < ones (t .live)). absurd (omega (arith, first-bit (ones (t .live)) i l)))
       (λ (l : ones (t .live) ≤ i). l)
       (split i (ones (t .live)))
 

@@ -1,7 +1,7 @@
 -- Packed forms, ties and tables: what stands where, and the loops that make them, as lists changed element by element.
 use mathlib.Core.List.{List}
 use mathlib.Core.Path.{_≡_, refl, sym, ap, _∙_, subst}
-use Prim.Native.Nat.{ℕ, zero, suc, _+_, _-_, _*_, _^_, _≤_, _<_}
+use Prim.Native.Nat.{ℕ, zero, suc, _+_, _-_, _*_, _^_, _<_}
 use native.Mathlib.Nat.{pow-suc}
 use native.Mathlib.Omega.{arith}
 use lib.Count.{ones}
@@ -19,24 +19,11 @@ use Rattle.form.proofs.Laws.Upto.{upto-none, upto-more}
 use Rattle.ties.specs.declared.Ties.{Ties}
 use Rattle.ties.specs.Ties.{maskAt}
 use Rattle.table.specs.declared.Table.{Table}
+use Rattle.fields.specs.Listed.{listed}
+use Rattle.fields.proofs.Laws.Listed.{length-listed, listed-at, listed-beyond}
 use Rattle.pack.specs.Slot.{slotAt, packedMask}
-use Rattle.pack.specs.Packed.{listed, packedForm, packedTies, packedTable}
+use Rattle.pack.specs.Packed.{packedForm, packedTies, packedTable}
 use Rattle.pack.proofs.Laws.Slot.{slot-live}
-
--- ---- a list by its elements
-pub length-listed : {A : Type 0} (n : ℕ) (f : ℕ → A) → length (listed n f) ≡ n
-unfolding listed
-length-listed zero f = refl
-length-listed (suc n) f = ap suc (length-listed n (λ i. f (suc i)))
-
-pub listed-at : {A : Type 0} (d : A) (n : ℕ) (f : ℕ → A) (i : ℕ) → i < n → getD (listed n f) i d ≡ f i
-unfolding listed
-listed-at d zero f i l = absurd (omega arith)
-listed-at d (suc n) f zero l = refl
-listed-at d (suc n) f (suc i) l = listed-at d n (λ j. f (suc j)) i (omega arith)
-
-pub listed-beyond : {A : Type 0} (d : A) (n : ℕ) (f : ℕ → A) (i : ℕ) → n ≤ i → getD (listed n f) i d ≡ d
-listed-beyond d n f i l = List·getD-eq-default (listed n f) d (omega (arith, length-listed n f))
 
 -- ---- forms
 -- what the loop puts at slot j, of the form f
@@ -107,7 +94,7 @@ unfolding total
 full zero = refl
 full (suc n) = omega (arith, full n, pow-suc 2 n, pow-pos n)
 
-pub packed-live : (live : ℕ) → live < 2 ^ 64 → packedMask live live ≡ 2 ^ ones live - 1
+packed-live : (live : ℕ) → live < 2 ^ 64 → packedMask live live ≡ 2 ^ ones live - 1
 unfolding packedMask
 packed-live live h = total-ext (ones live) _ _ (λ i l. ap (λ (b : ℕ). b * 2 ^ i) (slot-live live h i l)) ∙ full (ones live)
 

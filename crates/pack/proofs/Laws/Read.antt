@@ -14,11 +14,11 @@ use Rattle.form.specs.Form.{quarter, turnAt, rowAt, signAt}
 use Rattle.form.proofs.Laws.Beyond.{turn-none, row-none}
 use Rattle.ties.specs.declared.Ties.{Ties}
 use Rattle.ties.specs.Ties.{maskAt, sideAt}
+use Rattle.fields.proofs.Laws.Listed.{length-listed, listed-at, listed-beyond}
 use Rattle.pack.specs.Slot.{slotAt, packedMask}
 use Rattle.pack.specs.Packed.{packedForm, packedTies}
 use Rattle.pack.proofs.Laws.Slot.{rank-le, ones-rank, slot-none}
 use Rattle.pack.proofs.Laws.Mask.{packed-bit, packed-above}
-use Rattle.pack.proofs.Laws.Packed.{length-listed, listed-at, listed-beyond}
 
 -- at most 64 slots are live
 pub ones-small : (live : ℕ) → live < 2 ^ 64 → ones live ≤ 64

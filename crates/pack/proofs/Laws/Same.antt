@@ -1,24 +1,20 @@
 -- A normal table whose live slots are the lowest is its own packed table, and its body is read off slot by slot.
 use mathlib.Core.Logic.{⊎-elim}
-use mathlib.Core.Path.{_≡_, refl, sym, ap, _∙_, subst}
+use mathlib.Core.Path.{_≡_, refl, sym, ap, _∙_}
 use Prim.Native.Nat.{ℕ, _-_, _^_, _≤_, _<_}
-use native.Mathlib.Nat.{lt-of-lt-of-le}
 use native.Mathlib.Omega.{arith}
 use lib.Count.{ones}
-use lib.Pow.{pow-mono, pow-pos}
 use Rattle.exact.proofs.Laws.Sum.{split}
-use Rattle.bits.specs.Mask.{bit}
-use Rattle.bits.proofs.Laws.Bit.{bit-lt, bit-above, bit-of-zero, bit-ext}
 use Rattle.bits.proofs.Laws.Packed as mask
-use Rattle.form.specs.declared.Form.{Form}
 use Rattle.form.specs.Move.{Changed}
-use Rattle.form.specs.Form.{quarter, turnAt, rowAt, signAt}
+use Rattle.form.specs.Form.{quarter, turnAt, rowAt}
 use Rattle.form.proofs.Laws.Beyond.{turn-none, row-none}
 use Rattle.ties.specs.Ties.{maskAt}
 use Rattle.ties.proofs.Laws.Lead.{reduced-eq}
 use Rattle.table.specs.declared.Table.{Table}
-use Rattle.table.specs.Entry.{row, tie, ties}
+use Rattle.table.specs.Entry.{ties}
 use Rattle.table.specs.Normal.{Normal}
+use Rattle.table.proofs.Laws.First.{free-from, row-low, tie-low}
 use Rattle.pack.specs.Slot.{slotAt, packedMask}
 use Rattle.pack.specs.Packed.{packedTies, packedTable}
 use Rattle.pack.specs.Body.{plainBytes, bodyBytes}
@@ -27,43 +23,10 @@ use Rattle.pack.proofs.Laws.Read.{mask-at, side-at, slot-beyond}
 use Rattle.pack.proofs.Laws.First.{ones-first, slot-first, packed-first, body-first}
 use Rattle.pack.proofs.Laws.Normal.{packed-reduced}
 
-sign-is : (f : Form) (u v : ℕ) → signAt f u v ≡ bit (rowAt f v) u
-unfolding signAt
-sign-is f u v = refl
-
--- a mask without bits from n on is below 2^n
-pub narrow : (n m : ℕ) → n ≤ 64 → m < 2 ^ 64 → ((v : ℕ) → n ≤ v → bit m v ≡ 0) → m < 2 ^ n
-narrow n m l h z = subst (λ (k : ℕ). k < 2 ^ n) (sym same) low
-  where
-    low : mask.packed n (bit m) < 2 ^ n
-    low = mask.packed-lt n (bit m) (bit-lt m)
-
-    same : m ≡ mask.packed n (bit m)
-    same =
-        bit-ext 64 m (mask.packed n (bit m)) h (lt-of-lt-of-le low (pow-mono l))
-        (λ v k.
-        ⊎-elim
-        (λ (q : v < n). sym (mask.packed-bit n (bit m) (bit-lt m) v q))
-        (λ (q : n ≤ v). z v q ∙ sym (bit-above n (mask.packed n (bit m)) v low q))
-        (split v n))
-
 module _ (t : Table) (N : Normal t) (n : ℕ) (l : n ≤ 64) (e : t .live ≡ 2 ^ n - 1) where
-  -- from n on every slot is free
-  free-from : (v : ℕ) → n ≤ v → bit (t .live) v ≡ 0
-  free-from v k = ap (λ (m : ℕ). bit m v) e ∙ bit-above n (2 ^ n - 1) v (omega (arith, pow-pos n)) k
-
-  row-low : (v : ℕ) → row t v < 2 ^ n
-  row-low v = narrow n (row t v) l (N .proper .row-range v) none
-    where
-      none : (u : ℕ) → n ≤ u → bit (rowAt (t .form) v) u ≡ 0
-      none u k = sym (sign-is (t .form) u v) ∙ N .proper .even u v ∙ sign-is (t .form) v u ∙ ap (λ (m : ℕ). bit m v) (N .free-row u (free-from u k)) ∙ bit-of-zero v
-
-  tie-low : (j : ℕ) → tie t j < 2 ^ n
-  tie-low j = narrow n (tie t j) l (N .reduced .mask-range j) (λ v k. N .free-tie j v (free-from v k))
-
   -- its body, slot by slot
   pub body-same : bodyBytes t ≡ plainBytes n t
-  body-same = body-first t n l e (λ v k. row-low v) (λ j k. tie-low j)
+  body-same = body-first t n l e (λ v k. row-low t N n e v) (λ j k. tie-low t N n e j)
 
   -- ---- the packed table is the table
   ones-is : ones (t .live) ≡ n
@@ -82,16 +45,16 @@ module _ (t : Table) (N : Normal t) (n : ℕ) (l : n ≤ 64) (e : t .live ≡ 2 
   turn-same i =
       ⊎-elim
       (λ (k : i < n). ap (turnAt (t .form)) (sym (slot-same i k)))
-      (λ (k : n ≤ i). N .free-turn i (free-from i k) ∙ sym (ap (turnAt (t .form)) (slot-none i k) ∙ turn-none (t .form) (N .proper .turns-are) 64 (omega arith)))
+      (λ (k : n ≤ i). N .free-turn i (free-from t N n e i k) ∙ sym (ap (turnAt (t .form)) (slot-none i k) ∙ turn-none (t .form) (N .proper .turns-are) 64 (omega arith)))
       (split i n)
 
   row-same : (i : ℕ) → rowAt (t .form) i ≡ packedMask (t .live) (rowAt (t .form) (slotAt (t .live) i))
   row-same i =
-      sym (mask-same (rowAt (t .form) i) (row-low i))
+      sym (mask-same (rowAt (t .form) i) (row-low t N n e i))
       ∙ ap (packedMask (t .live))
       (⊎-elim
       (λ (k : i < n). ap (rowAt (t .form)) (sym (slot-same i k)))
-      (λ (k : n ≤ i). N .free-row i (free-from i k) ∙ sym (ap (rowAt (t .form)) (slot-none i k) ∙ row-none (t .form) (N .proper .signs-are) 64 (omega arith)))
+      (λ (k : n ≤ i). N .free-row i (free-from t N n e i k) ∙ sym (ap (rowAt (t .form)) (slot-none i k) ∙ row-none (t .form) (N .proper .signs-are) 64 (omega arith)))
       (split i n))
 
   form-same : Changed (turnPacked (t .live) (t .form)) (rowPacked (t .live) (t .form)) 64 (t .form) (t .form)
@@ -109,7 +72,7 @@ module _ (t : Table) (N : Normal t) (n : ℕ) (l : n ≤ 64) (e : t .live ≡ 2 
   ties-same : packedTies (t .live) (t .ties) ≡ t .ties
   ties-same =
       reduced-eq (packedTies (t .live) (t .ties)) (t .ties) (packed-reduced t N) (N .reduced) count-same
-      (λ j. mask-at (t .live) (t .ties) (N .reduced .masks-are) j ∙ mask-same (maskAt (t .ties) j) (tie-low j))
+      (λ j. mask-at (t .live) (t .ties) (N .reduced .masks-are) j ∙ mask-same (maskAt (t .ties) j) (tie-low t N n e j))
       (side-at (t .live) (t .ties) (N .reduced .masks-are))
 
   pub packed-same : packedTable t ≡ t

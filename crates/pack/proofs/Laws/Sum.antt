@@ -1,14 +1,12 @@
 -- Sums over packed slots are sums over live ones: of numbers at slots, of parities, and over pairs of slots.
 use mathlib.Core.Logic.{⊎-elim}
-use mathlib.Core.Path.{_≡_, refl, sym, ap, ap₂, _∙_}
+use mathlib.Core.Path.{_≡_, sym, ap, ap₂, _∙_}
 use Prim.Native.Nat.{ℕ, zero, suc, _*_, _%_, _^_, _≤_, _<_}
 use native.Mathlib.Omega.{arith}
 use lib.Count.{ones}
 use Rattle.exact.specs.Sum.{total, pairs}
 use Rattle.exact.proofs.Laws.Sum.{split, total-ext, total-mul, total-zero}
 use Rattle.bits.specs.Mask.{bit, parity}
-use Rattle.bits.proofs.Laws.Bit.{bit-lt}
-use Rattle.bits.proofs.Laws.Parity.{parity-when}
 use Rattle.pack.specs.Slot.{rank, slotAt, packedMask}
 use Rattle.pack.specs.Packed.{unpacked}
 use Rattle.pack.proofs.Laws.Slot.{ones-rank, rank-slot, total-live}
@@ -16,7 +14,7 @@ use Rattle.pack.proofs.Laws.Mask.{packed-bit, packed-above}
 use Rattle.pack.proofs.Laws.Read.{ones-small}
 
 -- a sum whose terms are 0 from n on
-pub total-stop : (m n : ℕ) (f : ℕ → ℕ) → n ≤ m → ((i : ℕ) → n ≤ i → f i ≡ 0) → total m f ≡ total n f
+total-stop : (m n : ℕ) (f : ℕ → ℕ) → n ≤ m → ((i : ℕ) → n ≤ i → f i ≡ 0) → total m f ≡ total n f
 unfolding total
 total-stop zero n f l h = let e : 0 ≡ n = omega arith in ap (λ (k : ℕ). total k f) e
 total-stop (suc m) n f l h =
@@ -78,16 +76,3 @@ module _ (live : ℕ) (h : live < 2 ^ 64) (y : ℕ → ℕ) where
           sym (total-mul (rank live v) (bit live v) (λ i. b (slotAt live i) v * (at (slotAt live i) * at v)))
           ∙ sym (total-live live (λ u. bit live v * (b u v * (at u * at v))) v (omega arith))
           ∙ total-ext v _ _ (λ u k. omega arith)
-
-  -- the same at any assignment that agrees on the live slots, for a set inside them
-  pub packed-parity-inside : (m : ℕ) (x : ℕ → ℕ) → ((v : ℕ) → v < 64 → bit m v ≤ bit live v) → ((v : ℕ) → v < 64 → bit live v ≡ 1 → x v ≡ y (rank live v))
-      → parity (packedMask live m) y ≡ parity m x
-  unfolding unpacked
-  packed-parity-inside m x inside same = packed-parity m ∙ parity-when m _ _ (λ v l. term v l (bit live v) refl (bit-lt live v))
-    where
-      term : (v : ℕ) → v < 64 → (b : ℕ) → bit live v ≡ b → b < 2 → bit m v * (b * y (rank live v)) ≡ bit m v * x v
-      term v l zero e k =
-          let z : bit m v ≡ 0 = omega (arith, inside v l) in
-          ap (λ (d : ℕ). d * (0 * y (rank live v))) z ∙ omega arith ∙ sym (ap (λ (d : ℕ). d * x v) z)
-      term v l (suc zero) e k = ap (λ (d : ℕ). bit m v * d) (omega (arith, same v l e))
-      term v l (suc (suc b)) e k = absurd (omega arith)

@@ -16,12 +16,12 @@ use Rattle.body.proofs.Laws.Signed.{signed-low, signed-high}
 use Rattle.round_trip.proofs.Laws.Part.{Part, part-at, part-own, part-left, part-right, part-joined, part-byte, part-number}
 
 -- ---- the power
-pub signed-back : (s : ℤ) → InRange s → s ≡ signed16 (ofSigned16 s)
+signed-back : (s : ℤ) → InRange s → s ≡ signed16 (ofSigned16 s)
 unfolding ofSigned16
 signed-back (pos n) h = sym (signed-low n (omega arith))
 signed-back (negsuc n) h = sym (signed-high (65536 - suc n) (omega arith) (omega arith) ∙ ap negsuc (omega arith))
 
-pub signed-small : (s : ℤ) → InRange s → ofSigned16 s < 256 ^ 2
+signed-small : (s : ℤ) → InRange s → ofSigned16 s < 256 ^ 2
 unfolding ofSigned16
 signed-small (pos n) h = omega arith
 signed-small (negsuc n) h = omega arith

@@ -1,7 +1,6 @@
 -- What is told on each way through the code, case by case of the answer or of the body.
 use mathlib.Core.List.{List}
-use mathlib.Core.Logic.{_≢_}
-use mathlib.Core.Path.{_≡_, refl, sym, ap, subst, _∙_}
+use mathlib.Core.Path.{_≡_, refl, sym, ap, _∙_}
 use Prim.Native.Nat.{ℕ}
 use native.Mathlib.Omega.{arith}
 use lib.Count.{ones}
@@ -9,7 +8,6 @@ use Rattle.exact.specs.declared.Amount.{Amount}
 use Rattle.exact.specs.declared.Answer.{Answer}
 use Rattle.exact.specs.declared.Answer.the-variants.{Refused as NotGiven, Is}
 use Rattle.exact.specs.Answer.{numberOf, amountOf}
-use Rattle.table.specs.declared.Table.{Table}
 use Rattle.table.specs.Entry.{ties}
 use Rattle.book.specs.declared.Said.{Said}
 use Rattle.book.specs.declared.Said.the-variants.{Refused, Circuit, Whole}
