@@ -1,5 +1,5 @@
 // Amplitudes of pseudo-random circuits compared with the product of the gates' matrices, at every output string. The expected numbers are those of tests/compare.py.
-mod draw;
+mod circuits;
 mod plain;
 mod tally;
 mod value;
@@ -30,7 +30,7 @@ fn roots(gates: &[u8]) -> u64 {
     let mut sum: u64 = 0;
     let mut j: usize = 0;
     while j < count {
-        sum = std::num::wrapping_add_u64(sum, draw::roots(gates[3 * j]));
+        sum = std::num::wrapping_add_u64(sum, circuits::roots(gates[3 * j]));
         j += 1;
     }
     sum
@@ -79,7 +79,7 @@ fn outputs(width: u8, input: u64, gates: &[u8]) -> Tally {
 // Circuit `number` of a width, from an input drawn too.
 fn trial(width: u8, number: u64) -> Tally {
     let stream = number ^ ((width as u64) << 32);
-    let gates = draw::gates(stream, width);
+    let gates = circuits::gates(stream, width);
     let input = draw::word(stream, 4096) & std::num::wrapping_sub_u64(plain::place(width), 1);
     let end = 3 * length(number);
     outputs(width, input, &gates[..end])

@@ -1,5 +1,4 @@
 // Forms and ties that no table has: each call on them returns, with what is known of it all the same.
-use super::draw;
 use super::plain;
 use super::tally::Tally;
 use exact::Eighth;

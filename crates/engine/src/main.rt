@@ -1,7 +1,7 @@
 // Forms and ties compared, on pseudo-random inputs, with plain loops over the slots. A count follows from the bounds of the loops alone.
-mod draw;
 mod forms;
 mod garbage;
+mod masks;
 mod plain;
 mod systems;
 mod tally;

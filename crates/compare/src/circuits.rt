@@ -7,21 +7,6 @@ struct Gate {
     second: u8,
 }
 
-// A round of xorshift64.
-fn shifted(s: u64) -> u64 {
-    let a = s ^ (s << 13);
-    let b = a ^ (a >> 7);
-    b ^ (b << 17)
-}
-
-// Number `at` of stream `stream`.
-pub(crate) fn word(stream: u64, at: u64) -> u64 {
-    let a = std::num::wrapping_add_u64(shifted(stream ^ 0x9e3779b97f4a7c15), at);
-    let b = shifted(shifted(a));
-    let c = std::num::wrapping_add_u64(shifted(b), a << 32);
-    shifted(shifted(c))
-}
-
 // The gates' codes by number: seven of one wire, three of two.
 fn listed(n: u64) -> u8 {
     match n {
@@ -83,12 +68,12 @@ fn other(w: u64, width: u8, first: u8) -> u8 {
 
 // Gate `j` of a stream, after `count` factors 1/√2.
 fn drawn(stream: u64, width: u8, j: u64, count: u64) -> Gate {
-    let c = limited(code(word(stream, j), width), count);
-    let first = wire(word(stream, j ^ 1024), width);
+    let c = limited(code(draw::word(stream, j), width), count);
+    let first = wire(draw::word(stream, j ^ 1024), width);
     let second = if c < 16 {
         0
     } else {
-        other(word(stream, j ^ 2048), width, first)
+        other(draw::word(stream, j ^ 2048), width, first)
     };
     Gate {
         code: c,

@@ -1,8 +1,8 @@
 -- `gates` is safe and ends. The loop's invariant: the bound of the loop. The measure is what is left of it.
 use Prim.Native.Nat.{_≤_, _-_}
 use borrow.Author.Needs.{needs}
-use Rattle.compare.proofs.draw.gates.Statement.{statement}
-use Rattle.compare.proofs.draw.gates.Tie as tie
+use Rattle.compare.proofs.circuits.gates.Statement.{statement}
+use Rattle.compare.proofs.circuits.gates.Tie as tie
 
 abbrev Inv-loop : tie.InvT-loop
 Inv-loop stream width bytes₀ count₀ j₀ bytes count j = j ≤ 300

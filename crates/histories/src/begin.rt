@@ -1,0 +1,81 @@
+// Where a table's history begins: the fresh table, or one with a base, made by 64 new bits of which those outside the base are fixed and the others turned.
+use super::counts;
+use super::model::Model;
+use super::plain;
+use super::step::Side;
+use super::store;
+use super::value::Value;
+use exact::Quarter;
+use exact::Slot;
+use table::Table;
+
+// One bit more, at slot `v`.
+fn opened(t: Table, v: usize, all: &mut [u64]) -> Table {
+    let o = t.new_bit();
+    counts::numbered(all, counts::NEW_BIT, o.refusal, 0);
+    counts::compared(all, counts::PLACES, o.slot.0 == v);
+    o.table
+}
+
+// Slots 0 to `n` − 1 live.
+pub(crate) fn open(n: usize, all: &mut [u64]) -> Table {
+    let mut t = Table::fresh();
+    let mut v: usize = 0;
+    while v < n {
+        t = opened(t, v, all);
+        v += 1;
+    }
+    t
+}
+
+// Slot `v` fixed.
+fn fix(t: Table, v: usize, all: &mut [u64]) -> Table {
+    let c = t.fix(Slot(v), (v % 2) as u8);
+    counts::numbered(all, counts::FIX, c.refusal, 0);
+    c.table
+}
+
+// Slot `v` turned.
+fn turn(t: Table, v: usize, all: &mut [u64]) -> Table {
+    let c = t.quarter(Slot(v), Quarter((v % 4) as u8));
+    counts::numbered(all, counts::QUARTER, c.refusal, 0);
+    c.table
+}
+
+// Slot `v` turned in the base, and fixed outside it.
+fn one(t: Table, base: u64, v: usize, all: &mut [u64]) -> Table {
+    if plain::digit(base, v) == 1 {
+        turn(t, v, all)
+    } else {
+        fix(t, v, all)
+    }
+}
+
+// The slots of the base turned, and the others fixed.
+fn shape(full: Table, base: u64, all: &mut [u64]) -> Table {
+    let mut t = full;
+    let mut v: usize = 0;
+    while v < 64 {
+        t = one(t, base, v, all);
+        v += 1;
+    }
+    t
+}
+
+// The table of a base: as `Model::new` has it.
+fn table_of(base: u64, all: &mut [u64]) -> Table {
+    if base == 0 {
+        return Table::fresh();
+    }
+    shape(open(64, all), base, all)
+}
+
+// A table that begins, beside its model; the model's values are all 1.
+pub(crate) fn begun(base: u64, area: &mut [u64], all: &mut [u64]) -> Side {
+    counts::add(all, counts::HISTORIES, 1);
+    store::fill(area, Value::one());
+    Side {
+        table: table_of(base, all),
+        model: Model::new(base),
+    }
+}
