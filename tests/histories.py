@@ -192,6 +192,10 @@ def made(call, t, other, spoilt):
 # The draws of the program
 
 
+def drawing(stream, call):
+    return lambda j: word(word(stream, call), word(stream, j))
+
+
 def small(w, n):
     a = w // 64 % 256
     return a % n if w % 64 < 60 else 255 if a < n else a
@@ -278,10 +282,8 @@ def hold(t):
         totals["spreads added up"] += len(t.base) + some.bit_length() - 1
 
 
-def step(draw, t, other, limit):
-    call = drawn(draw, t, other, limit)
-    spoilt = draw(8) % 16 == 0
-    first = spoilt and not (call[0] == "join" and draw(9) % 2 == 1)
+def called(draw, call, t, other, spoilt, first):
+    """A call on t, with what is asked before and held after; whether a table is spoilt, and whether that is t."""
     ask_entry(draw, t, first)
     if first:
         counts["spread"][12] += 1
@@ -290,16 +292,25 @@ def step(draw, t, other, limit):
     return t
 
 
+def step(draw, t, other, limit):
+    call = drawn(draw, t, other, limit)
+    spoilt = draw(8) % 16 == 0
+    return called(draw, call, t, other, spoilt, spoilt and not (call[0] == "join" and draw(9) % 2 == 1))
+
+
 def begun(base):
     totals["histories"] += 1
     if base:
         counts["new_bit"][0] += 64
+        counts["new_bit"][4] += 1
         counts["quarter"][0] += len(bits(base))
         counts["fix"][0] += 64 - len(bits(base))
     return Table(base)
 
 
 LIMITS = [6, 6, 10, 6, 4, 10, 10, 6]
+NEAR = [-2000, -1999, -1, 0, 1, 1998, 1999, 2000]
+FAR = NEAR + [-(2**31), -4001, -4000, 4000, 4001, 2**31 - 1]
 BASES = [0, 2**58 - 1, WORD ^ sum(1 << v for v in range(0, 64, 7)), 0, 0, 2**54 - 1, 0, WORD ^ 63]
 
 
@@ -308,61 +319,36 @@ def history(stream):
     bases = [BASES[kind], 2**40 - 1 if kind == 3 else 0]
     tables = [begun(base) for base in bases]
     for call in range(CALLS):
-        draw = lambda j: word(word(stream, call), word(stream, j))
+        draw = drawing(stream, call)
         side = 1 if draw(0) % 4 == 0 else 0
         if draw(13) % 4 == 0 and tables[side].zero():
             tables[side] = begun(bases[side])
         tables[side] = step(draw, tables[side], tables[1 - side], [LIMITS[kind], 4][side])
 
 
-# The limits by themselves
+# The limits in calls by plan
 
 
-def fill():
-    live, sums = set(), 0
-    for i in range(100):
-        free = next((v for v in range(64) if v not in live), 64)
-        counts["new_bit"][0 if free < 64 else 4] += 1
-        live |= {free} - {64}
-        v = 7 * (i % 64) % 64
-        if i % 4 == 3:
-            counts["sum"][0 if v in live else 1] += 1
-            live -= {v}
-    counts["spread"][0] += 1
-    totals["spreads added up"] += len(live)
+def planned(i, j):
+    v = 61 if i % 2 == 0 else 40
+    plan = {0: ("scale", NEAR[i // 14], 0), 1: ("scale", FAR[i % 14], 1), 2: ("join",), 7: ("quarter", v, i % 4), 8: ("sum", v),
+            10: ("tie", 0, 1), 11: ("scale", FAR[i % 14], 1), 12: ("join",)}
+    return plan.get(j, ("new_bit",))
 
 
-def join(n, k):
-    counts["new_bit"][0] += n + k
-    counts["join"][0 if n + k <= 64 else 4] += 1
-
-
-def powers(i):
-    near = [-2000, -1999, -1, 0, 1, 1998, 1999, 2000]
-    far = near + [-(2**31), -4001, -4000, 4000, 4001, 2**31 - 1]
-    s, m, f = near[i // 14 % 8], near[i % 14 % 8], far[i % 14]
-    fits = lambda n: 0 if -2000 <= n <= 2000 else 5
-    for n in (s, s + f, m, s):  # the last is the bit's, before its sum
-        counts["scale"][fits(n)] += 1
-    counts["join"][fits(s + m)] += 1
-    # the zero table made, scaled and joined
-    counts["tie"][0] += 1
-    counts["scale"][0] += 1
-    counts["join"][0] += 1
-    # the sum of a bit: 2, √2·ω, zero or √2·ω⁷
-    counts["new_bit"][0] += 1
-    counts["quarter"][0] += 1
-    gain = [2, 1, None, 1][i % 4]
-    counts["sum"][0 if gain is None else fits(s + gain)] += 1
+def plan(i):
+    base = 2**61 - 1 if i % 2 == 0 else 2**40 - 1
+    other = begun(0 if i % 2 == 0 else base)
+    other = called(drawing(i, 14), ("scale", NEAR[i % 14 % 8], 0), other, other, False, False)
+    t = begun(base)
+    for j in range(14):
+        t = called(drawing(i, j), planned(i, j), t, other, False, False)
 
 
 for stream in range(HISTORIES):
     history(stream)
-fill()
-for n, k in ((40, 40), (24, 40), (64, 1)):
-    join(n, k)
 for i in range(112):
-    powers(i)
+    plan(i)
 print("call accepted", *NUMBERS[1:])
 for name in NAMES:
     print(name, *counts[name].values())

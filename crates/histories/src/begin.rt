@@ -1,7 +1,8 @@
-// Where a table's history begins: the fresh table, or one with a base, made by 64 new bits of which those outside the base are fixed and the others turned.
+// Where a table's history begins: the fresh table, or one with a base, made by new bits until one is refused, of which those outside the base are then fixed and the others turned.
 use super::counts;
 use super::model::Model;
 use super::plain;
+use super::same;
 use super::step::Side;
 use super::store;
 use super::value::Value;
@@ -17,15 +18,25 @@ fn opened(t: Table, v: usize, all: &mut [u64]) -> Table {
     o.table
 }
 
-// Slots 0 to `n` − 1 live.
-pub(crate) fn open(n: usize, all: &mut [u64]) -> Table {
+// All 64 slots live.
+fn open(all: &mut [u64]) -> Table {
     let mut t = Table::fresh();
     let mut v: usize = 0;
-    while v < n {
+    while v < 64 {
         t = opened(t, v, all);
         v += 1;
     }
     t
+}
+
+// One bit too many: refused by 4, with slot 64 and the table as it was.
+fn refused(t: Table, all: &mut [u64]) -> Table {
+    let o = t.new_bit();
+    let after = o.table;
+    counts::numbered(all, counts::NEW_BIT, o.refusal, 4);
+    counts::compared(all, counts::PLACES, o.slot.0 == 64);
+    counts::compared(all, counts::KEPT, same::same(t, after));
+    after
 }
 
 // Slot `v` fixed.
@@ -67,13 +78,14 @@ fn table_of(base: u64, all: &mut [u64]) -> Table {
     if base == 0 {
         return Table::fresh();
     }
-    shape(open(64, all), base, all)
+    let full = open(all);
+    shape(refused(full, all), base, all)
 }
 
 // A table that begins, beside its model; the model's values are all 1.
-pub(crate) fn begun(base: u64, area: &mut [u64], all: &mut [u64]) -> Side {
+pub(crate) fn begun(base: u64, area: &mut [u64], part: usize, all: &mut [u64]) -> Side {
     counts::add(all, counts::HISTORIES, 1);
-    store::fill(area, Value::one());
+    store::fill(area, part, Value::one());
     Side {
         table: table_of(base, all),
         model: Model::new(base),

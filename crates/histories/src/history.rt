@@ -1,18 +1,13 @@
-// Histories: two tables side by side, each with its model, and a call on one of them after the other.
+// Histories: two tables side by side, each with its model, and a drawn call on one of them after the other.
 use super::begin;
 use super::call::Draw;
 use super::step;
+use super::step::Pair;
 use super::step::Side;
 use super::store;
 
 // How many calls a history has.
 const CALLS: u64 = 100;
-
-// The two tables.
-struct Pair {
-    first: Side,
-    second: Side,
-}
 
 // The base of the first table: none, or low, high or scattered slots, with room for the limit up to 64.
 fn base(stream: u64) -> u64 {
@@ -43,79 +38,73 @@ fn limit(stream: u64) -> u64 {
     }
 }
 
-// The side as it is, or begun anew: now and then where its table is zero, since such a one stays zero.
-fn renewed(s: Side, d: Draw, from: u64, area: &mut [u64], all: &mut [u64]) -> Side {
-    if d.word(13) % 4 != 0 {
-        return s;
+// The base of the table of a part.
+fn base_of(stream: u64, part: usize) -> u64 {
+    if part == 0 {
+        base(stream)
+    } else {
+        second_base(stream)
     }
-    if store::none(area) {
-        begin::begun(from, area, all)
+}
+
+// How many places the new bits of the table of a part may take.
+fn limit_of(stream: u64, part: usize) -> u64 {
+    if part == 0 { limit(stream) } else { 4 }
+}
+
+// Whether a table begins anew: now and then where it is zero, since such a one stays zero.
+fn ends(d: Draw, area: &[u64], part: usize) -> bool {
+    if d.word(13) % 4 == 0 {
+        store::none(area, part)
+    } else {
+        false
+    }
+}
+
+// The side as it is, or begun anew.
+fn renewed(s: Side, d: Draw, area: &mut [u64], part: usize, all: &mut [u64]) -> Side {
+    if ends(d, area, part) {
+        begin::begun(base_of(d.stream, part), area, part, all)
     } else {
         s
     }
 }
 
-// A call on the second table, with few places.
-fn on_second(
-    p: Pair,
-    d: Draw,
-    first: &[u64],
-    second: &mut [u64],
-    room: &mut [u64],
-    all: &mut [u64],
-) -> Pair {
+// A call on the first of a pair, the table of a part.
+fn turn(p: Pair, d: Draw, area: &mut [u64], part: usize, all: &mut [u64]) -> Pair {
     let a = p.first;
     let b = p.second;
-    let s = renewed(b, d, second_base(d.stream), second, all);
+    let q = Pair {
+        first: renewed(a, d, area, part, all),
+        second: b,
+    };
     Pair {
-        first: a,
-        second: step::step(s, a, second, first, room, all, d, 4),
-    }
-}
-
-// A call on the first table.
-fn on_first(
-    p: Pair,
-    d: Draw,
-    first: &mut [u64],
-    second: &[u64],
-    room: &mut [u64],
-    all: &mut [u64],
-) -> Pair {
-    let a = p.first;
-    let b = p.second;
-    let s = renewed(a, d, base(d.stream), first, all);
-    Pair {
-        first: step::step(s, b, first, second, room, all, d, limit(d.stream)),
+        first: step::step(q, d, limit_of(d.stream, part), area, part, all),
         second: b,
     }
 }
 
-// A call on one of the two.
-fn turn(
-    p: Pair,
-    d: Draw,
-    first: &mut [u64],
-    second: &mut [u64],
-    room: &mut [u64],
-    all: &mut [u64],
-) -> Pair {
+// The pair the other way round.
+fn swapped(p: Pair) -> Pair {
+    let a = p.first;
+    let b = p.second;
+    Pair {
+        first: b,
+        second: a,
+    }
+}
+
+// A call on one of the two: one of four on the second.
+fn next(p: Pair, d: Draw, area: &mut [u64], all: &mut [u64]) -> Pair {
     if d.word(0) % 4 == 0 {
-        on_second(p, d, first, second, room, all)
+        swapped(turn(swapped(p), d, area, 1, all))
     } else {
-        on_first(p, d, first, second, room, all)
+        turn(p, d, area, 0, all)
     }
 }
 
 // The calls of a history.
-fn calls(
-    begun: Pair,
-    stream: u64,
-    first: &mut [u64],
-    second: &mut [u64],
-    room: &mut [u64],
-    all: &mut [u64],
-) {
+fn calls(begun: Pair, stream: u64, area: &mut [u64], all: &mut [u64]) {
     let mut p = begun;
     let mut call: u64 = 0;
     while call < CALLS {
@@ -123,31 +112,25 @@ fn calls(
             stream: stream,
             call: call,
         };
-        p = turn(p, d, first, second, room, all);
+        p = next(p, d, area, all);
         call += 1;
     }
 }
 
 // History number `stream`.
-fn history(stream: u64, first: &mut [u64], second: &mut [u64], room: &mut [u64], all: &mut [u64]) {
+fn history(stream: u64, area: &mut [u64], all: &mut [u64]) {
     let p = Pair {
-        first: begin::begun(base(stream), first, all),
-        second: begin::begun(second_base(stream), second, all),
+        first: begin::begun(base(stream), area, 0, all),
+        second: begin::begun(second_base(stream), area, 1, all),
     };
-    calls(p, stream, first, second, room, all);
+    calls(p, stream, area, all);
 }
 
 // So many histories.
-pub(crate) fn run(
-    n: u64,
-    first: &mut [u64],
-    second: &mut [u64],
-    room: &mut [u64],
-    all: &mut [u64],
-) {
+pub(crate) fn run(n: u64, area: &mut [u64], all: &mut [u64]) {
     let mut stream: u64 = 0;
     while stream < n {
-        history(stream, first, second, room, all);
+        history(stream, area, all);
         stream += 1;
     }
 }

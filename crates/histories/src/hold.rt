@@ -45,8 +45,8 @@ fn is_zero(a: Amount) -> bool {
 }
 
 // The model's value at an assignment `x` of the live slots, which is `q` at the places.
-pub(crate) fn value_at(m: Model, area: &[u64], q: u64, x: u64) -> Value {
-    store::at(area, q).turned(m.phase(x))
+pub(crate) fn value_at(m: Model, area: &[u64], part: usize, q: u64, x: u64) -> Value {
+    store::at(area, part, q).turned(m.phase(x))
 }
 
 // Whether an amount is √2^power times the value: with the factors √2 divided out of the values, the powers must be the same, and the value ω^phase.
@@ -64,21 +64,21 @@ pub(crate) fn is_value(a: Amount, v: Value, power: u64) -> bool {
 }
 
 // The entry at the assignment `q` of the places, with the bits of `any` in the base.
-fn one(n: Tally, t: Table, m: Model, area: &[u64], q: u64, any: u64) -> Tally {
+fn one(n: Tally, t: Table, m: Model, area: &[u64], part: usize, q: u64, any: u64) -> Tally {
     let x = m.spread(q) | any & m.base;
     let a = t.amount_at(x);
-    let v = value_at(m, area, q, x);
+    let v = value_at(m, area, part, q, x);
     n.with(is_zero(a), !v.none(), is_value(a, v, m.power))
 }
 
 // Every entry; an assignment with a bit at a free place is none.
-fn entries(t: Table, m: Model, area: &[u64], any: u64) -> Tally {
+fn entries(t: Table, m: Model, area: &[u64], part: usize, any: u64) -> Tally {
     let taken = m.taken();
     let mut n = Tally::none();
     let mut q: u64 = 0;
     while q < 1024 {
         if q & !taken == 0 {
-            n = one(n, t, m, area, q, draw::word(any, q));
+            n = one(n, t, m, area, part, q, draw::word(any, q));
         }
         q += 1;
     }
@@ -94,25 +94,34 @@ pub(crate) fn is_spread(spread: u64, some: u64, m: Model) -> bool {
     if n < 64 { 1 << n == some } else { false }
 }
 
-// The entries and the spread, counted.
-fn hold_values(t: Table, m: Model, area: &[u64], any: u64, all: &mut [u64]) {
-    let n = entries(t, m, area, any);
+// The spread, beside how many entries are not zero by the model.
+fn hold_spread(t: Table, m: Model, some: u64, all: &mut [u64]) {
+    let s = t.spread();
+    let spread = s.spread as u64;
+    counts::numbered(all, counts::SPREAD, s.refusal, 0);
+    counts::add(all, counts::SPREADS, spread);
+    counts::compared(all, counts::SPREADING, is_spread(spread, some, m));
+}
+
+// The entries.
+fn hold_entries(n: Tally, all: &mut [u64]) {
     counts::add(all, counts::ENTRIES, n.compared);
     counts::add(all, counts::ZEROS, n.zero);
     counts::add(all, counts::VALUES, n.differed);
-    let s = t.spread();
-    let spread = s.spread as u64;
-    counts::answered(all, counts::SPREAD, s.refusal);
-    counts::add(all, counts::SPREADS, spread);
-    counts::compared(all, counts::SPREADING, is_spread(spread, n.some, m));
 }
 
-// Everything.
-pub(crate) fn hold(t: Table, m: Model, area: &[u64], any: u64, all: &mut [u64]) {
-    let live = m.live();
+// The fields.
+fn hold_fields(t: Table, live: u64, all: &mut [u64]) {
     counts::compared(all, counts::NORMAL, t.normal());
     counts::compared(all, counts::FREED, t.live == live);
     counts::compared(all, counts::FREED, tidy::freed(t, live));
     counts::compared(all, counts::LEADS, tidy::apart(t));
-    hold_values(t, m, area, any, all);
+}
+
+// Everything.
+pub(crate) fn hold(t: Table, m: Model, area: &[u64], part: usize, any: u64, all: &mut [u64]) {
+    let n = entries(t, m, area, part, any);
+    hold_fields(t, m.live(), all);
+    hold_entries(n, all);
+    hold_spread(t, m, n.some, all);
 }

@@ -4,15 +4,14 @@ mod call;
 mod change;
 mod counts;
 mod expected;
-mod full;
 mod history;
 mod hold;
 mod joining;
 mod model;
 mod plain;
-mod powers;
 mod reply;
 mod same;
+mod script;
 mod settle;
 mod spoil;
 mod step;
@@ -64,6 +63,10 @@ fn show_calls(all: &[u64]) {
     show(b"join", all, counts::JOIN);
     show(b"entry", all, counts::ENTRY);
     show(b"spread", all, counts::SPREAD);
+}
+
+// The lines of what was compared.
+fn show_totals(all: &[u64]) {
     show_one(b"histories", counts::at(all, counts::HISTORIES));
     show_one(b"entries", counts::at(all, counts::ENTRIES));
     show_one(b"zero entries", counts::at(all, counts::ZEROS));
@@ -105,16 +108,14 @@ fn show_verdict(n: u64) {
     }
 }
 
-// The histories, then the limits by themselves, and the lines.
+// The histories, then the plans, and the lines.
 fn main() {
-    let mut first = [0u64; 4096];
-    let mut second = [0u64; 4096];
-    let mut room = [0u64; 4096];
+    let mut area = [0u64; 12288];
     let mut all = [0u64; counts::ALL];
-    history::run(HISTORIES, &mut first, &mut second, &mut room, &mut all);
-    full::run(&mut all);
-    powers::run(&mut all);
+    history::run(HISTORIES, &mut area, &mut all);
+    script::run(&mut area, &mut all);
     show_calls(&all);
+    show_totals(&all);
     show_differences(&all);
     show_verdict(differed(&all));
 }

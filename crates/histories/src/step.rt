@@ -12,13 +12,26 @@ use super::reply::Reply;
 use super::same;
 use super::spoil;
 use super::store;
+use super::value::Value;
 use exact::Answer;
 use table::Table;
 
-// A table beside its model; the model's values are in an area of their own.
+// A table beside its model; the model's values are in a part of the area.
 pub(crate) struct Side {
     pub table: Table,
     pub model: Model,
+}
+
+// The table that a call is made on, and the other, which it may be joined with.
+pub(crate) struct Pair {
+    pub first: Side,
+    pub second: Side,
+}
+
+// The faults of the two tables that a call is given, 0 for none.
+pub(crate) struct Faults {
+    pub first: u64,
+    pub second: u64,
 }
 
 // The row of a call.
@@ -35,27 +48,28 @@ fn row(c: Call) -> usize {
     }
 }
 
-// Whether the fault of a call is in the second table: in every second join.
-fn in_second(c: Call, d: Draw) -> bool {
+// The faults that are drawn for a call: in every second join that of the second table.
+fn faults_of(c: Call, d: Draw) -> Faults {
+    let fault = spoil::drawn(d);
     if let Call::Join = c {
-        d.word(9) % 2 == 1
-    } else {
-        false
+        if d.word(9) % 2 == 1 {
+            return Faults {
+                first: 0,
+                second: fault,
+            };
+        }
+    }
+    Faults {
+        first: fault,
+        second: 0,
     }
 }
 
 // An entry at the drawn assignment.
-fn ask_entry(t: Table, m: Model, area: &[u64], d: Draw, spoilt: bool, all: &mut [u64]) {
-    let x = call::assignment(d, m);
-    let due = if spoilt {
-        12
-    } else {
-        expected::mask_fault(m, x)
-    };
+fn ask_entry(t: Table, m: Model, x: u64, due: u8, v: Value, all: &mut [u64]) {
     match t.entry(x) {
         Answer::Refused(n) => counts::numbered(all, counts::ENTRY, n, due),
         Answer::Is(a) => {
-            let v = hold::value_at(m, area, m.gathered(x), x);
             counts::numbered(all, counts::ENTRY, 0, due);
             counts::compared(all, counts::VALUES, hold::is_value(a, v, m.power));
         }
@@ -70,10 +84,14 @@ fn ask_spread(t: Table, all: &mut [u64]) {
 }
 
 // What a table answers that a call is about to be made on.
-fn ask(t: Table, m: Model, area: &[u64], d: Draw, spoilt: bool, all: &mut [u64]) {
-    ask_entry(t, m, area, d, spoilt, all);
+fn ask(t: Table, m: Model, d: Draw, spoilt: bool, area: &[u64], part: usize, all: &mut [u64]) {
+    let x = call::assignment(d, m);
+    let v = hold::value_at(m, area, part, m.gathered(x), x);
     if spoilt {
+        ask_entry(t, m, x, 12, v, all);
         ask_spread(t, all);
+    } else {
+        ask_entry(t, m, x, expected::mask_fault(m, x), v, all);
     }
 }
 
@@ -115,55 +133,96 @@ fn next(spoilt: bool, before: Table, r: Reply) -> Table {
 }
 
 // The model's values after a call that is not refused.
-fn follow(refusal: u8, room: &[u64], area: &mut [u64]) {
+fn follow(refusal: u8, area: &mut [u64], part: usize) {
     if refusal == 0 {
-        store::copy(room, area);
+        store::take(area, part);
     }
 }
 
-// The call `c` made, on the table `t` or a spoilt one for it, and compared.
-fn made(
-    c: Call,
-    t: Table,
-    given: Table,
-    joined: Table,
-    e: Expected,
-    spoilt: bool,
-    all: &mut [u64],
-) -> Table {
-    let r = reply::ask(c, given, joined);
-    compare(c, r, e, given, all);
-    next(spoilt, t, r)
+// The tables that a call is given: those of a pair, with their faults.
+fn spoilt(p: Pair, f: Faults) -> Pair {
+    let a = p.first;
+    let b = p.second;
+    Pair {
+        first: spoilt_side(a, f.first),
+        second: spoilt_side(b, f.second),
+    }
 }
 
-// A call on `s` beside `other`, whose values are in `area` and `others`.
-pub(crate) fn step(
-    s: Side,
-    other: Side,
-    area: &mut [u64],
-    others: &[u64],
-    room: &mut [u64],
-    all: &mut [u64],
-    d: Draw,
-    limit: u64,
-) -> Side {
-    let m = s.model;
-    let n = other.model;
+// A side with a fault in its table.
+fn spoilt_side(s: Side, fault: u64) -> Side {
     let t = s.table;
-    let u = other.table;
-    let c = call::drawn(d, m, n, limit);
-    let fault = spoil::drawn(d);
-    let second = in_second(c, d);
-    let given = spoil::spoilt(t, m, if second { 0 } else { fault });
-    let joined = spoil::spoilt(u, n, if second { fault } else { 0 });
-    ask(given, m, area, d, fault != 0 && !second, all);
-    let e = expected::foretold(c, m, n, area, others, room, fault != 0);
-    let after = made(c, t, given, joined, e, fault != 0, all);
-    let model = e.model;
-    follow(e.refusal, room, area);
-    hold::hold(after, model, area, d.word(12), all);
+    let m = s.model;
     Side {
-        table: after,
+        table: spoil::spoilt(t, m, fault),
+        model: m,
+    }
+}
+
+// The call `c` made on the tables of a pair and compared.
+fn made(c: Call, p: Pair, e: Expected, all: &mut [u64]) -> Reply {
+    let a = p.first;
+    let b = p.second;
+    let t = a.table;
+    let u = b.table;
+    let r = reply::ask(c, t, u);
+    compare(c, r, e, t, all);
+    r
+}
+
+// The call `c` on the first of a pair, the table of a part: foretold, made, and compared.
+fn answer(c: Call, f: Faults, p: Pair, area: &mut [u64], part: usize, all: &mut [u64]) -> Side {
+    let a = p.first;
+    let b = p.second;
+    let m = a.model;
+    let n = b.model;
+    let t = a.table;
+    let bad = (f.first | f.second) != 0;
+    let e = expected::foretold(c, m, n, bad, area, part);
+    let r = made(c, spoilt(p, f), e, all);
+    let model = e.model;
+    follow(e.refusal, area, part);
+    Side {
+        table: next(bad, t, r),
         model: model,
     }
+}
+
+// The same, with what the table answers before, and all that it holds after.
+pub(crate) fn called(
+    c: Call,
+    f: Faults,
+    p: Pair,
+    d: Draw,
+    area: &mut [u64],
+    part: usize,
+    all: &mut [u64],
+) -> Side {
+    let a = p.first;
+    let m = a.model;
+    let g = spoilt_side(a, f.first);
+    let given = g.table;
+    ask(given, m, d, f.first != 0, area, part, all);
+    let s = answer(c, f, p, area, part, all);
+    let t = s.table;
+    let n = s.model;
+    hold::hold(t, n, area, part, d.word(12), all);
+    s
+}
+
+// A drawn call.
+pub(crate) fn step(
+    p: Pair,
+    d: Draw,
+    limit: u64,
+    area: &mut [u64],
+    part: usize,
+    all: &mut [u64],
+) -> Side {
+    let a = p.first;
+    let b = p.second;
+    let m = a.model;
+    let n = b.model;
+    let c = call::drawn(d, m, n, limit);
+    called(c, faults_of(c, d), p, d, area, part, all)
 }

@@ -7,10 +7,10 @@ use Rattle.histories.proofs.begin.open.Statement.{statement}
 use Rattle.histories.proofs.begin.open.Tie as tie
 
 abbrev Inv-loop : tie.InvT-loop
-Inv-loop n all₀ t₀ v₀ all t v = (v ≤ n) × (length all ≡ length all₀)
+Inv-loop all₀ t₀ v₀ all t v = (v ≤ 64) × (length all ≡ length all₀)
 
 abbrev μ-loop : tie.MeasureT-loop
-μ-loop n all₀ t₀ v₀ all t v = n - v
+μ-loop all₀ t₀ v₀ all t v = 64 - v
 
 fresh-requires : tie.Need-fresh-requires Inv-loop μ-loop
 fresh-requires c κs = search needs

@@ -7,16 +7,16 @@ use Rattle.histories.proofs.history.calls.Statement.{statement}
 use Rattle.histories.proofs.history.calls.Tie as tie
 
 abbrev Inv-loop : tie.InvT-loop
-Inv-loop stream first₀ second₀ room₀ all₀ p₀ call₀ first second room all p call = (call ≤ 100) × (length first ≡ length first₀) × (length second ≡ length second₀) × (length room ≡ length room₀) × (length all ≡ length all₀)
+Inv-loop stream area₀ all₀ p₀ call₀ area all p call = (call ≤ 100) × (length area ≡ length area₀) × (length all ≡ length all₀)
 
 abbrev μ-loop : tie.MeasureT-loop
-μ-loop stream first₀ second₀ room₀ all₀ p₀ call₀ first second room all p call = 100 - call
+μ-loop stream area₀ all₀ p₀ call₀ area all p call = 100 - call
 
 loop-holds : tie.Need-loop-holds Inv-loop μ-loop
 loop-holds c = search needs
 
-turn-requires : tie.Need-turn-requires Inv-loop μ-loop
-turn-requires c κs = search needs
+next-requires : tie.Need-next-requires Inv-loop μ-loop
+next-requires c κs = search needs
 
 add-call : tie.Need-add-call Inv-loop μ-loop
 add-call c = search needs
@@ -33,12 +33,6 @@ same-length c = c .before .loop .inv .1
 same-length-2 : tie.Need-same-length-2 Inv-loop μ-loop
 same-length-2 c = c .before .loop .inv .2
 
-same-length-3 : tie.Need-same-length-3 Inv-loop μ-loop
-same-length-3 c = c .before .loop .inv .3
-
-same-length-4 : tie.Need-same-length-4 Inv-loop μ-loop
-same-length-4 c = c .before .loop .inv .4
-
 returns : tie.Need-returns Inv-loop μ-loop
 returns c = search needs
 
@@ -49,12 +43,10 @@ calls-spec =
     Inv-loop
     μ-loop
     loop-holds
-    turn-requires
+    next-requires
     add-call
     loop-less
     loop-again
     same-length
     same-length-2
-    same-length-3
-    same-length-4
     returns)

@@ -7,10 +7,10 @@ use Rattle.histories.proofs.history.run.Statement.{statement}
 use Rattle.histories.proofs.history.run.Tie as tie
 
 abbrev Inv-loop : tie.InvT-loop
-Inv-loop n first₀ second₀ room₀ all₀ stream₀ first second room all stream = (stream ≤ n) × (length first ≡ length first₀) × (length second ≡ length second₀) × (length room ≡ length room₀) × (length all ≡ length all₀)
+Inv-loop n area₀ all₀ stream₀ area all stream = (stream ≤ n) × (length area ≡ length area₀) × (length all ≡ length all₀)
 
 abbrev μ-loop : tie.MeasureT-loop
-μ-loop n first₀ second₀ room₀ all₀ stream₀ first second room all stream = n - stream
+μ-loop n area₀ all₀ stream₀ area all stream = n - stream
 
 loop-holds : tie.Need-loop-holds Inv-loop μ-loop
 loop-holds c = search needs
@@ -33,12 +33,6 @@ same-length c = c .before .loop .inv .1
 same-length-2 : tie.Need-same-length-2 Inv-loop μ-loop
 same-length-2 c = c .before .loop .inv .2
 
-same-length-3 : tie.Need-same-length-3 Inv-loop μ-loop
-same-length-3 c = c .before .loop .inv .3
-
-same-length-4 : tie.Need-same-length-4 Inv-loop μ-loop
-same-length-4 c = c .before .loop .inv .4
-
 returns : tie.Need-returns Inv-loop μ-loop
 returns c = search needs
 
@@ -55,6 +49,4 @@ run-spec =
     loop-again
     same-length
     same-length-2
-    same-length-3
-    same-length-4
     returns)

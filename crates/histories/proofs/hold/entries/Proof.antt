@@ -5,10 +5,10 @@ use Rattle.histories.proofs.hold.entries.Statement.{statement}
 use Rattle.histories.proofs.hold.entries.Tie as tie
 
 abbrev Inv-loop : tie.InvT-loop
-Inv-loop t m area any taken n₀ q₀ n q = q ≤ 1024
+Inv-loop t m area part any taken n₀ q₀ n q = q ≤ 1024
 
 abbrev μ-loop : tie.MeasureT-loop
-μ-loop t m area any taken n₀ q₀ n q = 1024 - q
+μ-loop t m area part any taken n₀ q₀ n q = 1024 - q
 
 taken-requires : tie.Need-taken-requires Inv-loop μ-loop
 taken-requires c κs = search needs

@@ -3,20 +3,20 @@ use mathlib.Core.Path.{_≡_}
 use Prim.Native.Nat.{_≤_, _-_}
 use lib.ListN.{length}
 use borrow.Author.Needs.{needs}
-use Rattle.histories.proofs.powers.run.Statement.{statement}
-use Rattle.histories.proofs.powers.run.Tie as tie
+use Rattle.histories.proofs.script.run.Statement.{statement}
+use Rattle.histories.proofs.script.run.Tie as tie
 
 abbrev Inv-loop : tie.InvT-loop
-Inv-loop all₀ i₀ all i = (i ≤ 112) × (length all ≡ length all₀)
+Inv-loop area₀ all₀ i₀ area all i = (i ≤ 112) × (length area ≡ length area₀) × (length all ≡ length all₀)
 
 abbrev μ-loop : tie.MeasureT-loop
-μ-loop all₀ i₀ all i = 112 - i
+μ-loop area₀ all₀ i₀ area all i = 112 - i
 
 loop-holds : tie.Need-loop-holds Inv-loop μ-loop
 loop-holds c = search needs
 
-cases-requires : tie.Need-cases-requires Inv-loop μ-loop
-cases-requires c κs = search needs
+plan-requires : tie.Need-plan-requires Inv-loop μ-loop
+plan-requires c κs = search needs
 
 add-i : tie.Need-add-i Inv-loop μ-loop
 add-i c = search needs
@@ -30,6 +30,9 @@ loop-again c = search needs
 same-length : tie.Need-same-length Inv-loop μ-loop
 same-length c = c .before .loop .inv .1
 
+same-length-2 : tie.Need-same-length-2 Inv-loop μ-loop
+same-length-2 c = c .before .loop .inv .2
+
 returns : tie.Need-returns Inv-loop μ-loop
 returns c = search needs
 
@@ -40,9 +43,10 @@ run-spec =
     Inv-loop
     μ-loop
     loop-holds
-    cases-requires
+    plan-requires
     add-i
     loop-less
     loop-again
     same-length
+    same-length-2
     returns)
