@@ -8,25 +8,20 @@ four whole numbers, the coefficients of 1, ω, ω², ω³, times a power of √2
 There is no form, no tie and no reduction here.
 """
 
-WORD = 2**64 - 1
+import sys
+from pathlib import Path
+
+sys.dont_write_bytecode = True
+sys.path.insert(0, str(Path(__file__).resolve().parent / "drawn"))
+
+from words import WORD, word
+
 HISTORIES, CALLS = 24, 100  # the program's
 ONE, NOTHING = (1, 0, 0, 0), (0, 0, 0, 0)
 NAMES = ["new_bit", "quarter", "sign", "scale", "tie", "sum", "fix", "join", "entry", "spread"]
 NUMBERS = [0, 12, 3, 1, 2, 4, 5]
 counts = {name: dict.fromkeys(NUMBERS, 0) for name in NAMES}
 totals = {"histories": 0, "entries": 0, "zero entries": 0, "spreads added up": 0}
-
-
-def shifted(s):
-    a = s ^ s << 13 & WORD
-    b = a ^ a >> 7
-    return b ^ b << 17 & WORD
-
-
-def word(stream, at):
-    a = shifted(stream ^ 0x9E3779B97F4A7C15) + at & WORD
-    b = shifted(shifted(a))
-    return shifted(shifted(shifted(b) + (a << 32 & WORD) & WORD))
 
 
 def bits(mask):
