@@ -9,9 +9,9 @@ use lib.ListN.{length, take, drop}
 use Rattle.exact.specs.Refusal.{accepted, badBody, notNormal}
 use Rattle.fields.specs.Bytes.{number}
 use Rattle.gates.specs.Circuit.{circuitNumber}
-use Rattle.table.specs.Normal.{Normal}
+use Rattle.state.specs.Normal.{Normal}
 use Rattle.contents.specs.Contents.{countOf, kindOf, widthOf, lengthOf, startOf, contentsNumber}
-use Rattle.body.specs.Body.{bodyFault, tableOf}
+use Rattle.body_read.specs.Body.{bodyFault, tableOf}
 
 -- the bytes of body j: "length (16 bits), start (32 bits)"
 unfoldable pub bodyBytes : List ℕ → ℕ → List ℕ

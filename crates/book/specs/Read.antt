@@ -9,12 +9,12 @@ use Rattle.exact.specs.declared.Amount.{Amount}
 use Rattle.exact.specs.declared.Answer.{Answer}
 use Rattle.exact.specs.declared.Answer.the-variants.{Refused as NotGiven, Is}
 use Rattle.exact.specs.Refusal.{accepted, badBody, notNormal, noBody}
-use Rattle.table.specs.Entry.{freshTable}
-use Rattle.table.specs.Normal.{Normal}
-use Rattle.table.specs.declared.Table.{Table}
+use Rattle.state.specs.Entry.{freshTable}
+use Rattle.state.specs.Normal.{Normal}
+use Rattle.state.specs.declared.State.{State}
 use Rattle.circuit.specs.Amplitude.{Amplitude}
 use Rattle.contents.specs.Contents.{countOf, kindOf, widthOf}
-use Rattle.body.specs.Body.{bodyFault, tableOf}
+use Rattle.body_read.specs.Body.{bodyFault, tableOf}
 use Rattle.book.specs.Book.{bodyBytes, inputOf, outputOf, gatesOf, circuitBodyNumber, BookNumber}
 pub use Rattle.book.specs.declared.Said.{Said}
 pub use Rattle.book.specs.declared.Said.the-variants.{Refused, Circuit, Whole}
@@ -36,7 +36,7 @@ abbrev pub saidOf : Answer → Said
 saidOf (NotGiven k) = Refused k
 saidOf (Is a) = Circuit a
 
-abbrev pub body : Said → Table → Body
+abbrev pub body : Said → State → Body
 body s t = record { said = s; table = t }
 
 -- "A refusal answers its number only, .. (where no table was handed in, the fresh one)"
@@ -48,7 +48,7 @@ abbrev pub amplitude : Amount → Body
 amplitude a = body (Circuit a) freshTable
 
 -- "or the table itself"
-abbrev pub whole : Table → Body
+abbrev pub whole : State → Body
 whole t = body Whole t
 
 -- ---- a body on its own

@@ -6,7 +6,7 @@ ghost use Rattle.book.specs.Book.{bodyBytes, BookNumber};
 ghost use Rattle.book.specs.Read.{saidNumber, saidOf, refusal, CircuitAnswer, TableAnswer, BodyAnswer, ReadsBody};
 use exact::Amount;
 use exact::Answer;
-use table::Table;
+use state::State;
 
 // What reading a body says: a refusal's number, a circuit's amplitude, or that the table stands beside it.
 pub enum Said {
@@ -18,7 +18,7 @@ pub enum Said {
 // What reading a body answers; the table is the fresh one unless it was read.
 pub struct Body {
     pub said: Said,
-    pub table: Table,
+    pub table: State,
 }
 
 // The number that refused, 0 for none.
@@ -48,7 +48,7 @@ fn refused(k: u8) -> Body
 {
     Body {
         said: Said::Refused(k),
-        table: Table::fresh(),
+        table: state_steps::fresh(),
     }
 }
 
@@ -57,14 +57,14 @@ fn circuit_body(part: &[u8], width: u8) -> Body
     ensures { λ r. ⌜ CircuitAnswer width (now (part .entry)) r ⌝ }
 {
     if part.len() < 8 {
-        return refused(11);
+        return refused(exact::BAD_BODY);
     }
     let input = fields::read_u32(part, 0);
     let output = fields::read_u32(part, 4);
     let a = circuit::amplitude(width, input, output, &part[8..]);
     Body {
         said: said_of(a),
-        table: Table::fresh(),
+        table: state_steps::fresh(),
     }
 }
 
@@ -72,7 +72,7 @@ fn circuit_body(part: &[u8], width: u8) -> Body
 fn table_body(part: &[u8], width: u8) -> Body
     ensures { λ r. ⌜ TableAnswer width (now (part .entry)) r ⌝ }
 {
-    let r = body::read(part, width);
+    let r = body_read::read(part, width);
     let fault = r.refusal;
     let t = r.table;
     if fault != 0 {
@@ -134,7 +134,7 @@ pub fn read(book: &[u8], j: usize) -> Body
         return refused(number);
     }
     if j >= contents::count(book) {
-        return refused(14);
+        return refused(exact::NO_BODY);
     }
     body_at(book, j)
 }

@@ -62,7 +62,7 @@ fn header_fault(bs: &[u8]) -> bool
     if bs.len() < 4 {
         return true;
     }
-    if bs.len() > 60000 {
+    if bs.len() > exact::MOST_BYTES {
         return true;
     }
     if bs[0] != 0x51 {
@@ -108,25 +108,25 @@ pub fn test(bs: &[u8]) -> u8
     ensures { λ r. ⌜ r ≡ contentsNumber (now (bs .entry)) ⌝ }
 {
     if header_fault(bs) {
-        return 9;
+        return exact::BAD_HEADER;
     }
     let n = count(bs);
     let first = 4 + 8 * n;
     if bs.len() < first {
-        return 10;
+        return exact::BAD_CONTENTS;
     }
     let mut at = first;
     let mut j = 0usize;
     while j < n {
         let e = entry_at(bs, j);
         if fault_at(e, at, bs.len()) {
-            return 10;
+            return exact::BAD_CONTENTS;
         }
         at += e.length;
         j += 1;
     }
     if at != bs.len() {
-        return 10;
+        return exact::BAD_CONTENTS;
     }
     0
 }
@@ -164,29 +164,29 @@ fn lay_number(room: usize, kinds: &[u8], widths: &[u8], lengths: &[u16]) -> u8
     ensures { λ r. ⌜ r ≡ layNumber room (now (kinds .entry)) (now (widths .entry)) (now (lengths .entry)) ⌝ }
 {
     let n = kinds.len();
-    if n > 16 {
-        return 9;
+    if n > exact::MOST_BODIES {
+        return exact::BAD_HEADER;
     }
-    if widths.len() > 16 {
-        return 9;
+    if widths.len() > exact::MOST_BODIES {
+        return exact::BAD_HEADER;
     }
-    if lengths.len() > 16 {
-        return 9;
+    if lengths.len() > exact::MOST_BODIES {
+        return exact::BAD_HEADER;
     }
     if widths.len() != n {
-        return 10;
+        return exact::BAD_CONTENTS;
     }
     if lengths.len() != n {
-        return 10;
+        return exact::BAD_CONTENTS;
     }
     if bad_kind(kinds) {
-        return 10;
+        return exact::BAD_CONTENTS;
     }
-    if book_size(lengths) > 60000 {
-        return 10;
+    if book_size(lengths) > exact::MOST_BYTES {
+        return exact::BAD_CONTENTS;
     }
     if room < 4 + 8 * n {
-        return 13;
+        return exact::AREA_SHORT;
     }
     0
 }

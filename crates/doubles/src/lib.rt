@@ -32,10 +32,10 @@ fn repeat(x: f64, factor: f64, n: u32) -> f64
 fn raise(power: i32) -> u32
     ensures { λ r. ⌜ r ≡ raised power ⌝ }
 {
-    if power < -2000 {
+    if power < exact::LEAST_POWER {
         return 2;
     }
-    if power > 2000 {
+    if power > exact::MOST_POWER {
         return 4002;
     }
     (power + 2002) as u32
@@ -103,7 +103,7 @@ fn of_answer(a: exact::Answer) -> Doubles
 
 // A table's entry at an assignment as two doubles.
 pub fn of_entry(t: Table, x: u64) -> Doubles
-    ensures { λ r. ⌜ DoublesAt t x r ⌝ }
+    ensures { λ r. ⌜ DoublesAt (t .state) x r ⌝ }
 {
     of_answer(t.entry(x))
 }

@@ -9,8 +9,8 @@ use lib.Count.{ones}
 use Rattle.exact.specs.Refusal.{accepted}
 use Rattle.exact.specs.declared.Amount.{Amount}
 use Rattle.exact.specs.Amount.{none, some}
-use Rattle.table.specs.declared.Table.{Table}
-use Rattle.table.specs.Entry.{ties}
+use Rattle.state.specs.declared.State.{State}
+use Rattle.state.specs.Entry.{ties}
 use Rattle.contents.specs.Contents.{countOf}
 use Rattle.lines.specs.Overlay.{Laid}
 use Rattle.lines.specs.Lines.{bookLine, circuitLine, tableLine, refusedLine}
@@ -21,11 +21,11 @@ use Rattle.book.specs.Book.{BookNumber}
 use Rattle.book.specs.Read.{ReadsBody}
 
 -- a table's power and phase, or zero
-abbrev pub tableAmount : Table → Amount
+abbrev pub tableAmount : State → Amount
 tableAmount t = cond (t .zero) none (some (t .power .0) (t .form .phase .0))
 
 -- "for each body: number, `C`, power, phase; or number, `T`, live, ties, power, phase"
-unfoldable pub bodyLine : ℕ → Said → Table → List ℕ
+unfoldable pub bodyLine : ℕ → Said → State → List ℕ
 bodyLine j (Refused k) t = []
 bodyLine j (Circuit a) t = circuitLine j a
 bodyLine j Whole t = tableLine j (ones (t .live)) (ties t) (tableAmount t)

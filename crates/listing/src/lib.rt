@@ -5,10 +5,10 @@ ghost use Rattle.listing.specs.Listing.{tableAmount, bodyLine, Listed};
 use book::Body;
 use book::Said;
 use exact::Amount;
-use table::Table;
+use state::State;
 
 // What a table's line shows as its amount: zero, or its power and its phase.
-pub fn table_amount(t: Table) -> Amount
+pub fn table_amount(t: State) -> Amount
     ensures { λ r. ⌜ r ≡ tableAmount t ⌝ }
 {
     if t.zero {

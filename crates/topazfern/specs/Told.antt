@@ -11,14 +11,14 @@ use Rattle.exact.specs.declared.Amount.the-variants.{Zero, Some}
 use Rattle.exact.specs.declared.Answer.{Answer}
 use Rattle.exact.specs.declared.Answer.the-variants.{Refused as NotGiven, Is}
 use Rattle.exact.specs.Answer.{numberOf}
-use Rattle.table.specs.declared.Table.{Table}
-use Rattle.table.specs.Entry.{ties}
-use Rattle.table.specs.Answers.{EntryAt}
+use Rattle.state.specs.declared.State.{State}
+use Rattle.state.specs.Entry.{ties}
+use Rattle.call_answers.specs.Answers.{EntryAt}
 use Rattle.circuit.specs.Amplitude.{Amplitude}
-use Rattle.body.specs.declared.Reading.{Reading}
-use Rattle.body.specs.Read.{Reads}
-use Rattle.pack.specs.declared.Written.{Written}
-use Rattle.pack.specs.Write.{BodyWritten}
+use Rattle.body_read.specs.declared.Reading.{Reading}
+use Rattle.body_read.specs.Read.{Reads}
+use Rattle.body_write.specs.declared.Written.{Written}
+use Rattle.body_write.specs.Write.{BodyWritten}
 use Rattle.book.specs.declared.Said.the-variants.{Refused, Circuit, Whole}
 use Rattle.book.specs.declared.Body.{Body}
 use Rattle.book.specs.Read.{saidNumber, ReadsBody}
@@ -66,7 +66,7 @@ pub record AmplitudeTold (width input output : ℕ) (bs : List ℕ) (before : To
   pub tells : Tells answer before n after
 
 -- an entry of a table
-pub record EntryTells (t : Table) (x : ℕ) (before : Told) (n : ℕ) (after : Told) : Type 0 where
+pub record EntryTells (t : State) (x : ℕ) (before : Told) (n : ℕ) (after : Told) : Type 0 where
   pub answer : Answer
   pub is : EntryAt t x answer
   pub tells : Tells answer before n after

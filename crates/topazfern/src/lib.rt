@@ -113,13 +113,13 @@ pub extern "C" fn topazfern_entry(
 ) -> u8
     ensures { λ n. ⌜ EntryTold width (now (body .entry)) x (behind (now (zero .entry)) (now (power .entry)) (now (phase .entry))) n (behind (now (zero .exit)) (now (power .exit)) (now (phase .exit))) ⌝ }
 {
-    let r = body::read(body, width);
+    let r = body_read::read(body, width);
     let refusal = r.refusal;
     if refusal != 0 {
         return refusal;
     }
     let t = r.table;
-    let a = t.entry(x);
+    let a = call_asking::entry(t, x);
     answer(a, zero, power, phase)
 }
 
@@ -151,14 +151,14 @@ pub extern "C" fn topazfern_write(
 ) -> u8
     ensures { λ n. ⌜ WriteTold width (now (body .entry)) (now (area .entry)) start n (now (bytes .exit)) (now (area .exit)) ⌝ }
 {
-    let r = body::read(body, width);
+    let r = body_read::read(body, width);
     let refusal = r.refusal;
     if refusal != 0 {
         *bytes = 0;
         return refusal;
     }
     let t = r.table;
-    let w = pack::write(t, area, start);
+    let w = body_write::write(t, area, start);
     let n = w.bytes;
     *bytes = n;
     w.refusal

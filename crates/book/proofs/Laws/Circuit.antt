@@ -9,8 +9,8 @@ use Rattle.exact.specs.declared.Answer.{Answer}
 use Rattle.exact.specs.declared.Answer.the-variants.{Refused as NotGiven, Is}
 use Rattle.fields.proofs.Laws.Front.{lent-part}
 use Rattle.gates.specs.Circuit.{circuitNumber}
-use Rattle.table.specs.Entry.{freshTable}
-use Rattle.table.specs.declared.Table.{Table}
+use Rattle.state.specs.Entry.{freshTable}
+use Rattle.state.specs.declared.State.{State}
 use Rattle.circuit.specs.Amplitude.{Amplitude}
 use Rattle.book.specs.Book.{inputOf, outputOf, gatesOf, circuitBodyNumber}
 use Rattle.book.specs.Read.{Said, Body, body, refusal, saidOf, CircuitAnswer}
@@ -56,7 +56,7 @@ module _ (n : ℕ) (bs : List ℕ) where
     }
 
     -- the circuit that the code was handed: two numbers read, and the part behind them
-    pub circuit-law : (a : Answer) (s : Said) (t : Table) (i o : ℕ) → Amplitude n i o (take (length bs - 8) (drop 8 bs)) a → i ≡ inputOf bs → o ≡ outputOf bs → s ≡ saidOf a → t ≡ freshTable → CircuitAnswer n bs (body s t)
+    pub circuit-law : (a : Answer) (s : Said) (t : State) (i o : ℕ) → Amplitude n i o (take (length bs - 8) (drop 8 bs)) a → i ≡ inputOf bs → o ≡ outputOf bs → s ≡ saidOf a → t ≡ freshTable → CircuitAnswer n bs (body s t)
     circuit-law a s t i o A p q e f =
         let B = subst (λ (v : ℕ). Amplitude n v o (take (length bs - 8) (drop 8 bs)) a) p A in
         let C = subst (λ (v : ℕ). Amplitude n (inputOf bs) v (take (length bs - 8) (drop 8 bs)) a) q B in

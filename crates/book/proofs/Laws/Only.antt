@@ -9,11 +9,11 @@ use Rattle.exact.specs.declared.Answer.the-variants.{Is}
 use Rattle.exact.specs.Answer.{amountOf}
 use Rattle.exact.proofs.Laws.Sum.{split}
 use Rattle.bits.proofs.Laws.Bit.{same-or}
-use Rattle.table.specs.Normal.{Normal}
+use Rattle.state.specs.Normal.{Normal}
 use Rattle.circuit.proofs.Laws.Amplitude.{no-second}
 use Rattle.contents.specs.Contents.{countOf, widthOf, entryOf, contentsNumber}
 use Rattle.contents.proofs.Laws.Good.{good}
-use Rattle.body.specs.Body.{bodyFault, tableOf}
+use Rattle.body_read.specs.Body.{bodyFault, tableOf}
 use Rattle.book.specs.Book.{inputOf, outputOf, gatesOf, bodyBytes, circuitBodyNumber, TableNumber, BodyNumber, Clear, Refuses, BodiesNumber, BookNumber}
 use Rattle.book.specs.Read.{Body, saidNumber, saidAmount, refusal, amplitude, CircuitAnswer, TableAnswer, ReadsBody}
 use Rattle.book.proofs.Laws.Number.{contents-good}

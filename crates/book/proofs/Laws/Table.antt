@@ -4,8 +4,8 @@ use mathlib.Core.Logic.{_≢_}
 use mathlib.Core.Path.{_≡_, ap}
 use Prim.Native.Nat.{ℕ}
 use native.Mathlib.Omega.{arith}
-use Rattle.body.specs.declared.Reading.{Reading}
-use Rattle.body.specs.Read.{Reads}
+use Rattle.body_read.specs.declared.Reading.{Reading}
+use Rattle.body_read.specs.Read.{Reads}
 use Rattle.book.specs.Read.{Refused, Whole, body, TableAnswer}
 
 module _ (n : ℕ) (bs : List ℕ) (r : Reading) (R : Reads n bs r) where

@@ -12,10 +12,10 @@ use Rattle.exact.specs.declared.Amount.the-variants.{Zero as NoAmount, Some}
 use Rattle.exact.specs.Refusal.{accepted}
 use Rattle.bits.specs.Mask.{bit}
 use Rattle.bits.proofs.Laws.Bit.{same-or}
-use Rattle.table.specs.declared.Table.{Table}
-use Rattle.table.specs.Entry.{entry}
-use Rattle.table.specs.Normal.{Normal}
-use Rattle.table.specs.Answers.{EntryAt}
+use Rattle.state.specs.declared.State.{State}
+use Rattle.state.specs.Entry.{entry}
+use Rattle.state.specs.Normal.{Normal}
+use Rattle.call_answers.specs.Answers.{EntryAt}
 use Rattle.doubles.specs.Answer.{Doubles, Answer, answer, partsOf, answerOf, answerFor}
 use Rattle.doubles.specs.Entry.{DoublesAt}
 use Rattle.doubles.proofs.Laws.Answer.{same-answer}
@@ -42,7 +42,7 @@ given-values : (a : Amount) → answerFor (Given a) ≡ answerOf a
 unfolding answerFor
 given-values a = refl
 
-module _ (t : Table) (x : ℕ) where
+module _ (t : State) (x : ℕ) where
   pub doubles-at : (a : Asked) (r : Doubles) → EntryAt t x a → answer r ≡ answerFor a → DoublesAt t x r
   doubles-at a r w e =
       record {

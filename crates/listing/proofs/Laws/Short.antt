@@ -12,14 +12,14 @@ use Rattle.exact.specs.declared.Amount.{Amount}
 use Rattle.exact.specs.declared.Amount.the-variants.{Zero, Some}
 use Rattle.exact.specs.Amount.{none, some, Small}
 use Rattle.bits.proofs.Laws.Bit.{same-or}
-use Rattle.table.specs.declared.Table.{Table}
-use Rattle.table.specs.Entry.{ties}
-use Rattle.table.specs.Normal as normal
-use Rattle.table.specs.Normal.{Normal}
+use Rattle.state.specs.declared.State.{State}
+use Rattle.state.specs.Entry.{ties}
+use Rattle.state.specs.Normal as normal
+use Rattle.state.specs.Normal.{Normal}
 use Rattle.circuit.specs.Run.{Near}
 use Rattle.contents.specs.Contents.{countOf, widthOf, entryOf}
 use Rattle.contents.proofs.Laws.Good.{good}
-use Rattle.body.specs.Body.{bodyFault, tableOf}
+use Rattle.body_read.specs.Body.{bodyFault, tableOf}
 use Rattle.lines.specs.Lines.{bookLine, refusedLine}
 use Rattle.lines.proofs.Laws.Lengths.{InRange, book-length, circuit-length, table-length, refused-length}
 use Rattle.book.specs.declared.Body.{Body}
@@ -38,7 +38,7 @@ power-range : (s : ℤ) → normal.InRange s → natAbs s ≤ 2000
 power-range (pos n) h = h
 power-range (negsuc n) h = omega (arith, h)
 
-table-range : (t : Table) → Normal t → InRange (tableAmount t)
+table-range : (t : State) → Normal t → InRange (tableAmount t)
 table-range t N = go (t .zero)
   where
     go : (z : Bool) → InRange (cond z none (some (t .power .0) (t .form .phase .0)))
@@ -64,7 +64,7 @@ module _ (j : ℕ) (h : j < 16) where
       (λ (ne : circuitBodyNumber n bs ≢ 0). subst (λ (c : Body). long j c ≤ 19) (sym (A .refused ne)) (refused-none (circuitBodyNumber n bs)))
       (same-or (circuitBodyNumber n bs) 0)
 
-  whole-short : (t : Table) → Normal t → long j (whole t) ≤ 19
+  whole-short : (t : State) → Normal t → long j (whole t) ≤ 19
   unfolding long bodyLine
   whole-short t N =
       table-length j (ones (t .live)) (ties t) (tableAmount t) (omega arith) (omega (arith, ones-le 64 (t .live) (N .live-range))) (omega (arith, N .reduced .count-range)) (table-range t N)

@@ -4,7 +4,7 @@ use native.Mathlib.Omega.{arith}
 use mathlib.Core.Path.{sym, ap, ap₂, _∙_}
 use Prim.Native.Nat.{ℕ}
 use Rattle.exact.specs.declared.Amount.{Amount}
-use Rattle.table.specs.Entry.{ties}
+use Rattle.state.specs.Entry.{ties}
 use Rattle.lines.specs.Lines.{tableLine}
 use Rattle.book.specs.declared.Said.{Said}
 use Rattle.lines.proofs.Laws.Laid.{laid-none, laid-text}

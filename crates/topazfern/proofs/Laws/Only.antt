@@ -7,14 +7,14 @@ use Rattle.exact.specs.declared.Answer.{Answer}
 use Rattle.exact.specs.declared.Answer.the-variants.{Refused as NotGiven, Is}
 use lib.Count.{ones}
 use Rattle.bits.proofs.Laws.Bit.{same-or}
-use Rattle.table.specs.Entry.{ties}
-use Rattle.table.specs.Answers.{EntryAt}
-use Rattle.history.proofs.Laws.Once.{one-entry}
-use Rattle.body.specs.declared.Reading.{Reading}
-use Rattle.body.proofs.Laws.Read.{one-reading}
-use Rattle.pack.specs.declared.Written.{Written}
-use Rattle.pack.specs.Write.{BodyWritten}
-use Rattle.pack.proofs.Laws.Write.{written-one}
+use Rattle.state.specs.Entry.{ties}
+use Rattle.call_answers.specs.Answers.{EntryAt}
+use Rattle.theorem_history.proofs.Laws.Once.{one-entry}
+use Rattle.body_read.specs.declared.Reading.{Reading}
+use Rattle.body_read.proofs.Laws.Read.{one-reading}
+use Rattle.body_write.specs.declared.Written.{Written}
+use Rattle.body_write.specs.Write.{BodyWritten}
+use Rattle.body_write.proofs.Laws.Write.{written-one}
 use Rattle.listing.specs.Listing.{tableAmount}
 use Rattle.circuit.proofs.Laws.Amplitude.{no-second}
 use Rattle.book.specs.declared.Said.{Said}

@@ -8,7 +8,7 @@ use Rattle.exact.specs.declared.Amount.{Amount}
 use Rattle.exact.specs.declared.Answer.{Answer}
 use Rattle.exact.specs.declared.Answer.the-variants.{Refused as NotGiven, Is}
 use Rattle.exact.specs.Answer.{numberOf, amountOf}
-use Rattle.table.specs.Entry.{ties}
+use Rattle.state.specs.Entry.{ties}
 use Rattle.book.specs.declared.Said.{Said}
 use Rattle.book.specs.declared.Said.the-variants.{Refused, Circuit, Whole}
 use Rattle.book.specs.declared.Body.{Body}

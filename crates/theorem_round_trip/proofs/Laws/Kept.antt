@@ -1,0 +1,46 @@
+-- A table that was written as a body of a book is read from the book as it was, its live bits renumbered in rising order: the book is not refused, and the body's bytes are those that were written.
+use mathlib.Core.List.{List}
+use mathlib.Core.Path.{_≡_, refl, sym, ap, _∙_, subst}
+use Prim.Native.Nat.{ℕ, _<_}
+use native.Mathlib.Omega.{arith}
+use lib.Count.{ones}
+use lib.ListN.{length, getD}
+use Rattle.exact.specs.Refusal.{accepted}
+use Rattle.state.specs.declared.State.{State}
+use Rattle.state.specs.Entry.{entry}
+use Rattle.state.specs.Normal.{Normal}
+use Rattle.body_write.specs.Packed.{packedTable, unpacked}
+use Rattle.body_write.specs.Body as pack
+use Rattle.body_write.proofs.Laws.Entry.{packed-entry}
+use Rattle.book.specs.declared.Body.{Body}
+use Rattle.book.specs.Book.{bodyBytes, TableNumber}
+use Rattle.book.specs.Read.{whole, TableAnswer, ReadsBody}
+use Rattle.book.proofs.Laws.Only.{one-number}
+use Rattle.theorem_round_trip.specs.Book.{Holds}
+use Rattle.theorem_round_trip.proofs.Laws.Back.{written-fine, written-table, written-normal}
+
+module _ (t : State) (N : Normal t) where
+  -- a written table is a body that is not refused
+  pub written-number : TableNumber (ones (t .live)) (pack.bodyBytes t) accepted
+  written-number = record {
+    fault = λ f. absurd (let z : _≡_ {A = ℕ} 0 1 = cc (written-fine t N) in omega arith);
+    broken = λ f k. absurd (k (written-normal t N));
+    sound = λ f k. refl;
+    normal = λ z. written-normal t N;
+  }
+
+  module _ (ks ws ls : List ℕ) (bodies : ℕ → List ℕ) (bs : List ℕ) (H : Holds ks ws ls bodies bs) where
+    module _ (j : ℕ) (h : j < length ks) (kind : getD ks j 0 ≡ 2) (width : getD ws j 0 ≡ ones (t .live)) (body : bodies j ≡ pack.bodyBytes t) (r : Body) (R : ReadsBody bs j r) where
+      answers : TableAnswer (ones (t .live)) (pack.bodyBytes t) r
+      answers =
+          let z : R .number ≡ accepted = one-number bs (R .number) accepted (R .tested) (H .number) in
+          let A = R .answer z (omega (arith, H .count)) .table (H .kind j h ∙ kind) in
+          subst (λ (l : List ℕ). TableAnswer (ones (t .live)) l r) (H .body j h ∙ body)
+          (subst (λ (n : ℕ). TableAnswer n (bodyBytes bs j) r) (H .width j h ∙ width) A)
+
+      pub kept : r ≡ whole (packedTable t)
+      kept = answers .sound (written-fine t N) (written-normal t N) ∙ ap whole (sym (written-table t N))
+
+      -- "A table written to a book reads back with the same entries"
+      pub kept-values : (y : ℕ → ℕ) → entry (r .table) y ≡ entry t (unpacked (t .live) y)
+      kept-values y = ap (λ (q : Body). entry (q .table) y) kept ∙ packed-entry t N y

@@ -1,0 +1,46 @@
+-- `lowest` is safe and ends. The loop's invariant: the bound of the loop. The measure is what is left of it.
+use Prim.Native.Nat.{_≤_, _-_}
+use borrow.Author.Needs.{needs}
+use Rattle.try_histories.proofs.plain.lowest.Statement.{statement}
+use Rattle.try_histories.proofs.plain.lowest.Tie as tie
+
+abbrev Inv-loop : tie.InvT-loop
+Inv-loop m v₀ v = v ≤ 64
+
+abbrev μ-loop : tie.MeasureT-loop
+μ-loop m v₀ v = 64 - v
+
+loop-holds : tie.Need-loop-holds Inv-loop μ-loop
+loop-holds c = search needs
+
+digit-requires : tie.Need-digit-requires Inv-loop μ-loop
+digit-requires c κs = search needs
+
+returns : tie.Need-returns Inv-loop μ-loop
+returns c = search needs
+
+add-v : tie.Need-add-v Inv-loop μ-loop
+add-v c = search needs
+
+loop-less : tie.Need-loop-less Inv-loop μ-loop
+loop-less c = search needs
+
+loop-again : tie.Need-loop-again Inv-loop μ-loop
+loop-again c = search needs
+
+returns-2 : tie.Need-returns-2 Inv-loop μ-loop
+returns-2 c = search needs
+
+pub lowest-spec : {M : Type 1} → statement M
+lowest-spec =
+    tie.close
+    (tie.spec
+    Inv-loop
+    μ-loop
+    loop-holds
+    digit-requires
+    returns
+    add-v
+    loop-less
+    loop-again
+    returns-2)

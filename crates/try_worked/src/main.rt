@@ -1,0 +1,207 @@
+// The cases of document 01 that are worked by hand, run by the code: a line for each, in that paper's order. The expected lines are that paper's numbers.
+use doubles::Doubles;
+use exact::Amount;
+use exact::Answer;
+use exact::Eighth;
+use exact::Power;
+use exact::Quarter;
+use exact::Slot;
+use table::Changed;
+use table::Table;
+
+// An amount: zero, or its power and its phase.
+fn show_amount(a: Amount) {
+    match a {
+        Amount::Zero => {
+            io::write_all(1, b"zero");
+        }
+        Amount::Some(power, phase) => {
+            if power.0 < 0 {
+                io::write_all(1, b"-");
+            }
+            io::print_decimal(1, lines::size(power.0));
+            io::write_all(1, b" ");
+            io::print_decimal(1, phase.0 as u64);
+        }
+    }
+}
+
+// A line: the case, and its answer.
+fn show(name: &[u8], a: Answer) {
+    io::write_all(1, name);
+    io::write_all(1, b": ");
+    match a {
+        Answer::Refused(n) => {
+            io::write_all(1, b"refused ");
+            io::print_decimal(1, n as u64);
+        }
+        Answer::Is(amount) => show_amount(amount),
+    }
+    io::write_all(1, b"\n");
+}
+
+// The entry of what a call left where every bit is 0, or the call's refusal.
+fn outcome(c: Changed) -> Answer {
+    if c.refusal != 0 {
+        return Answer::Refused(c.refusal);
+    }
+    let t = c.table;
+    t.entry(0)
+}
+
+// A table with one bit more.
+fn wider(t: Table) -> Table {
+    let n = t.new_bit();
+    n.table
+}
+
+// A table with slot `v` turned by `k` quarters.
+fn turned(t: Table, v: usize, k: u8) -> Table {
+    let c = t.quarter(Slot(v), Quarter(k));
+    c.table
+}
+
+// A table with a sign between two slots.
+fn signed(t: Table, u: usize, v: usize) -> Table {
+    let c = t.sign(Slot(u), Slot(v));
+    c.table
+}
+
+// One bit with a power and a turn, summed.
+fn one_bit(power: i32, k: u8) -> Answer {
+    let c = Table::fresh().scale(Power(power), Eighth(0));
+    let t = turned(wider(c.table), 0, k);
+    outcome(t.sum(Slot(0)))
+}
+
+// "Two bits with a sign, each quarter 1, sum both"
+fn two_bits() -> Answer {
+    let t = signed(wider(wider(Table::fresh())), 0, 1);
+    let c = turned(turned(t, 0, 1), 1, 1).sum(Slot(0));
+    let s = c.table;
+    outcome(s.sum(Slot(1)))
+}
+
+// "Three bits, all three signs, sum all"
+fn three_bits() -> Answer {
+    let t = signed(wider(wider(wider(Table::fresh()))), 0, 1);
+    let s = signed(signed(t, 0, 2), 1, 2);
+    let a = s.sum(Slot(0));
+    let b = a.table.sum(Slot(1));
+    outcome(b.table.sum(Slot(2)))
+}
+
+// "Tie {0,1}=1, then quarter 1 on slot 0": the phase, and the turns of slots 1 and 0.
+fn tied() {
+    let c = wider(wider(Table::fresh())).tie(3, 1);
+    let t = turned(c.table, 0, 1);
+    let form = t.state.form;
+    let one = form.turn_at(Slot(1));
+    let zero = form.turn_at(Slot(0));
+    io::write_all(1, b"tie 0 1 odd, quarter 1 on slot 0: c=");
+    io::print_decimal(1, form.phase.0 as u64);
+    io::write_all(1, b" a_1=");
+    io::print_decimal(1, one.0 as u64);
+    io::write_all(1, b" a_0=");
+    io::print_decimal(1, zero.0 as u64);
+    io::write_all(1, b"\n");
+}
+
+// "Doubles of (−1,1): 0.5 and 0.5."
+fn half() {
+    let c = Table::fresh().scale(Power(-1), Eighth(1));
+    match doubles::of_entry(c.table, 0) {
+        Doubles::Refused(_) => {}
+        Doubles::Zero => {}
+        Doubles::Value(x, y) => {
+            if x == 0.5 {
+                if y == 0.5 {
+                    io::write_all(1, b"doubles of -1 1: 0.5 and 0.5\n");
+                }
+            }
+        }
+    }
+}
+
+// "H on 0, CX 0 1": the four outputs of 00.
+fn pair() {
+    let gates = b"\x01\x00\x00\x11\x00\x01";
+    show(b"H 0, CX 0 1: 00 to 00", circuit::amplitude(2, 0, 0, gates));
+    show(b"H 0, CX 0 1: 00 to 01", circuit::amplitude(2, 0, 1, gates));
+    show(b"H 0, CX 0 1: 00 to 10", circuit::amplitude(2, 0, 2, gates));
+    show(b"H 0, CX 0 1: 00 to 11", circuit::amplitude(2, 0, 3, gates));
+}
+
+// The circuits of one wire.
+fn one_wire() {
+    show(b"no gates: 0 to 0", circuit::amplitude(1, 0, 0, b""));
+    show(b"no gates: 0 to 1", circuit::amplitude(1, 0, 1, b""));
+    show(b"H: 0 to 1", circuit::amplitude(1, 0, 1, b"\x01\x00\x00"));
+    show(
+        b"H, H: 0 to 1",
+        circuit::amplitude(1, 0, 1, b"\x01\x00\x00\x01\x00\x00"),
+    );
+    show(
+        b"H, S, H: 0 to 0",
+        circuit::amplitude(1, 0, 0, b"\x01\x00\x00\x02\x00\x00\x01\x00\x00"),
+    );
+    let thrice = b"\x01\x00\x00\x02\x00\x00\x01\x00\x00\x02\x00\x00\x01\x00\x00\x02\x00\x00";
+    show(
+        b"H, S three times: 0 to 0",
+        circuit::amplitude(1, 0, 0, thrice),
+    );
+    show(b"Y: 0 to 1", circuit::amplitude(1, 0, 1, b"\x06\x00\x00"));
+    show(b"Y: 1 to 0", circuit::amplitude(1, 1, 0, b"\x06\x00\x00"));
+}
+
+// A circuit for each number that refuses one.
+fn refusals() {
+    show(
+        b"two bytes of gates",
+        circuit::amplitude(1, 0, 0, b"\x01\x00"),
+    );
+    show(b"width 0", circuit::amplitude(0, 0, 0, b""));
+    show(b"width 32", circuit::amplitude(32, 0, 0, b""));
+    show(
+        b"an input bit at the width",
+        circuit::amplitude(1, 2, 0, b""),
+    );
+    show(
+        b"an output bit at the width",
+        circuit::amplitude(31, 0, 2147483648, b""),
+    );
+    show(b"code 8", circuit::amplitude(1, 0, 0, b"\x08\x00\x00"));
+    show(
+        b"H on wire 1 of 1",
+        circuit::amplitude(1, 0, 0, b"\x01\x01\x00"),
+    );
+    show(
+        b"H with a second byte",
+        circuit::amplitude(1, 0, 0, b"\x01\x00\x01"),
+    );
+    show(
+        b"CZ on one wire twice",
+        circuit::amplitude(2, 0, 0, b"\x10\x01\x01"),
+    );
+}
+
+fn main() {
+    one_wire();
+    pair();
+    show(b"one bit, quarter 0, sum", one_bit(0, 0));
+    show(b"one bit, quarter 1, sum", one_bit(0, 1));
+    show(b"one bit, quarter 2, sum", one_bit(0, 2));
+    show(b"one bit, quarter 3, sum", one_bit(0, 3));
+    show(
+        b"two bits with a sign, each quarter 1, sum both",
+        two_bits(),
+    );
+    show(b"three bits, all three signs, sum all", three_bits());
+    tied();
+    show(b"power 2000, quarter 2, sum", one_bit(2000, 2));
+    show(b"power 2000, quarter 1, sum", one_bit(2000, 1));
+    show(b"power 1999, quarter 1, sum", one_bit(1999, 1));
+    show(b"power 1999, quarter 0, sum", one_bit(1999, 0));
+    half();
+    refusals();
+}
