@@ -1,2 +1,3 @@
 pub mod Book
 pub mod Read
+pub mod Inner

@@ -6,8 +6,7 @@ use mathlib.Core.Path.{_≡_}
 use Prim.Native.Nat.{ℕ, _≤_, _<_}
 use Rattle.exact.specs.Amount.{none}
 use Rattle.exact.specs.declared.Amount.{Amount}
-use Rattle.exact.specs.declared.Answer.{Answer}
-use Rattle.exact.specs.declared.Answer.the-variants.{Refused as NotGiven, Is}
+use Rattle.exact.specs.declared.Answer.the-variants.{Is}
 use Rattle.exact.specs.Refusal.{accepted, badBody, notNormal, noBody}
 use Rattle.state.specs.Entry.{freshTable}
 use Rattle.state.specs.Normal.{Normal}
@@ -30,11 +29,6 @@ abbrev pub saidAmount : Said → Amount
 saidAmount (Refused k) = none
 saidAmount (Circuit a) = a
 saidAmount Whole = none
-
--- a circuit's answer, as it is said of a body
-abbrev pub saidOf : Answer → Said
-saidOf (NotGiven k) = Refused k
-saidOf (Is a) = Circuit a
 
 abbrev pub body : Said → State → Body
 body s t = record { said = s; table = t }

@@ -2,8 +2,9 @@
 ghost use mathlib.Core.Path.{_≡_};
 ghost use Prim.Native.Nat.{_<_};
 ghost use Rattle.contents.specs.Contents.{countOf, kindOf, widthOf, contentsNumber};
-ghost use Rattle.book.specs.Book.{bodyBytes, BookNumber};
-ghost use Rattle.book.specs.Read.{saidNumber, saidOf, refusal, CircuitAnswer, TableAnswer, BodyAnswer, ReadsBody};
+ghost use Rattle.book.specs.Book.{bodyBytes, circuitBodyNumber, TableNumber, BodyNumber, BookNumber};
+ghost use Rattle.book.specs.Inner.Said.{saidOf};
+ghost use Rattle.book.specs.Read.{refusal, CircuitAnswer, TableAnswer, BodyAnswer, ReadsBody};
 use exact::Amount;
 use exact::Answer;
 use state::State;
@@ -19,17 +20,6 @@ pub enum Said {
 pub struct Body {
     pub said: Said,
     pub table: State,
-}
-
-// The number that refused, 0 for none.
-fn said_number(s: Said) -> u8
-    ensures { λ r. ⌜ r ≡ saidNumber s ⌝ }
-{
-    match s {
-        Said::Refused(k) => k,
-        Said::Circuit(_) => 0,
-        Said::Whole => 0,
-    }
 }
 
 // A circuit's answer, as it is said of a body.
@@ -101,6 +91,40 @@ pub fn body_at(book: &[u8], j: usize) -> Body
     table_body(&book[from..to], e.width)
 }
 
+// The number that refuses a circuit's body of this width, 0 for none: its amplitude is not computed.
+fn circuit_fault(part: &[u8], width: u8) -> u8
+    ensures { λ r. ⌜ r ≡ circuitBodyNumber width (now (part .entry)) ⌝ }
+{
+    if part.len() < 8 {
+        return exact::BAD_BODY;
+    }
+    let input = fields::read_u32(part, 0);
+    let output = fields::read_u32(part, 4);
+    circuit::number(width, input, output, &part[8..])
+}
+
+// The number that refuses a table's body of this width, 0 for none.
+fn table_fault(part: &[u8], width: u8) -> u8
+    ensures { λ r. ⌜ TableNumber width (now (part .entry)) r ⌝ }
+{
+    let r = body_read::read(part, width);
+    r.refusal
+}
+
+// The number that refuses body j of a book with good contents, 0 for none.
+fn fault_at(book: &[u8], j: usize) -> u8
+    requires { ⌜ (contentsNumber (now book) ≡ 0) × (j < countOf (now book)) ⌝ }
+    ensures { λ r. ⌜ BodyNumber (now (book .entry)) j r ⌝ }
+{
+    let e = contents::entry_at(book, j);
+    let from = e.start;
+    let to = from + e.length;
+    if e.kind == 1 {
+        return circuit_fault(&book[from..to], e.width);
+    }
+    table_fault(&book[from..to], e.width)
+}
+
 // The number that refuses a book: header, contents, then bodies in order; 0 where it is good.
 pub fn test(book: &[u8]) -> u8
     ensures { λ r. ⌜ BookNumber (now (book .entry)) r ⌝ }
@@ -114,9 +138,7 @@ pub fn test(book: &[u8]) -> u8
     let mut left = n;
     while left > 0 {
         let j = n - left;
-        let b = body_at(book, j);
-        let s = b.said;
-        let k = said_number(s);
+        let k = fault_at(book, j);
         if k != 0 {
             return k;
         }

@@ -13,7 +13,8 @@ use Rattle.state.specs.Entry.{freshTable}
 use Rattle.state.specs.declared.State.{State}
 use Rattle.circuit.specs.Amplitude.{Amplitude}
 use Rattle.book.specs.Book.{inputOf, outputOf, gatesOf, circuitBodyNumber}
-use Rattle.book.specs.Read.{Said, Body, body, refusal, saidOf, CircuitAnswer}
+use Rattle.book.specs.Read.{Said, Body, body, refusal, CircuitAnswer}
+use Rattle.book.specs.Inner.Said.{saidOf}
 
 -- a refusal is no amount
 given : Answer → ℕ
@@ -21,7 +22,7 @@ given (NotGiven k) = 0
 given (Is a) = 1
 
 module _ (n : ℕ) (bs : List ℕ) where
-  short-number : length bs < 8 → circuitBodyNumber n bs ≡ 11
+  pub short-number : length bs < 8 → circuitBodyNumber n bs ≡ 11
   unfolding circuitBodyNumber
   short-number h = rw (lt-ltb (length bs) 8 h)
 
@@ -62,3 +63,11 @@ module _ (n : ℕ) (bs : List ℕ) where
         let C = subst (λ (v : ℕ). Amplitude n (inputOf bs) v (take (length bs - 8) (drop 8 bs)) a) q B in
         let D = subst (λ (l : List ℕ). Amplitude n (inputOf bs) (outputOf bs) l a) (lent-part bs 8) C in
         subst (CircuitAnswer n bs) (sym (ap₂ body e f)) (of-answer a D)
+
+  -- the number of the circuit that the code was handed
+  pub number-law : 8 ≤ length bs → (k i o : ℕ) → k ≡ circuitNumber n i o (take (length bs - 8) (drop 8 bs)) → i ≡ inputOf bs → o ≡ outputOf bs → k ≡ circuitBodyNumber n bs
+  number-law h k i o e p q =
+      e
+      ∙ ap₂ (λ (v w : ℕ). circuitNumber n v w (take (length bs - 8) (drop 8 bs))) p q
+      ∙ ap (circuitNumber n (inputOf bs) (outputOf bs)) (lent-part bs 8)
+      ∙ sym (long-number h)

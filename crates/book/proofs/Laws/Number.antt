@@ -1,7 +1,7 @@
--- The number of a body that answered, and of the book on each way through the code.
+-- A body by its entry: its answer and its number; and the number of the book on each way through the code.
 use mathlib.Core.List.{List}
 use mathlib.Core.Logic.{_≢_, inl, inr, ⊎-elim}
-use mathlib.Core.Path.{_≡_, refl, sym, ap, _∙_, subst}
+use mathlib.Core.Path.{_≡_, refl, sym, ap, ap₂, _∙_, subst}
 use Prim.Native.Nat.{ℕ, _+_, _-_, _≤_, _<_}
 use native.Mathlib.Omega.{arith}
 use lib.ListN.{length, take, drop}
@@ -10,8 +10,8 @@ use Rattle.bits.proofs.Laws.Bit.{same-or}
 use Rattle.contents.specs.declared.Entry.{Entry}
 use Rattle.contents.specs.Contents.{countOf, kindOf, widthOf, entryOf, contentsNumber}
 use Rattle.contents.proofs.Laws.Good.{good}
-use Rattle.book.specs.Book.{bodyBytes, circuitBodyNumber, BodyNumber, Clear, BookNumber}
-use Rattle.book.specs.Read.{Body, saidNumber, CircuitAnswer, TableAnswer, BodyAnswer}
+use Rattle.book.specs.Book.{bodyBytes, circuitBodyNumber, TableNumber, BodyNumber, Clear, BookNumber}
+use Rattle.book.specs.Read.{Body, CircuitAnswer, TableAnswer, BodyAnswer}
 
 -- ---- the part of the book that is lent
 part-law : (bs : List ℕ) (j : ℕ) (e : Entry) → e ≡ entryOf bs j → take (e .start + e .length - e .start) (drop (e .start) bs) ≡ bodyBytes bs j
@@ -35,23 +35,17 @@ answer-at bs j e r is a =
     (subst (λ (l : List ℕ). BodyAnswer (e .kind) (e .width) l r) (part-law bs j e is) a)
 
 -- ---- the number of a body
-num : Body → ℕ
-num r = saidNumber (r .said)
+pub number-circuit : (bs : List ℕ) (j : ℕ) (e : Entry) (k : ℕ) → e ≡ entryOf bs j → e .kind ≡ 1 → k ≡ circuitBodyNumber (e .width) (take (e .start + e .length - e .start) (drop (e .start) bs)) → BodyNumber bs j k
+number-circuit bs j e k is one a = record {
+  circuit = λ c. a ∙ ap₂ circuitBodyNumber (ap (λ (x : Entry). x .width) is) (part-law bs j e is);
+  table = λ c. absurd (let q : e .kind ≡ 2 = ap (λ (x : Entry). x .kind) is ∙ c in omega (arith, one, q));
+}
 
-pub answer-number : (bs : List ℕ) (j : ℕ) (r : Body) → BodyAnswer (kindOf bs j) (widthOf bs j) (bodyBytes bs j) r → (k : ℕ) → k ≡ saidNumber (r .said) → BodyNumber bs j k
-unfolding num
-answer-number bs j r a k is = subst (BodyNumber bs j) (sym is) (record {
-  circuit = λ c. by (a .circuit c);
-  table = λ c. record {
-    fault = λ f. ap num (a .table c .fault f);
-    broken = λ f m. ap num (a .table c .broken f m);
-    sound = λ f m. ap num (a .table c .sound f m);
-    normal = a .table c .normal;
-  };
-})
-  where
-    by : CircuitAnswer (widthOf bs j) (bodyBytes bs j) r → saidNumber (r .said) ≡ circuitBodyNumber (widthOf bs j) (bodyBytes bs j)
-    by A = ⊎-elim (λ z. ap num (A .given z) ∙ sym z) (λ ne. ap num (A .refused ne)) (same-or (circuitBodyNumber (widthOf bs j) (bodyBytes bs j)) 0)
+pub number-table : (bs : List ℕ) (j : ℕ) (e : Entry) (k : ℕ) → e ≡ entryOf bs j → e .kind ≢ 1 → TableNumber (e .width) (take (e .start + e .length - e .start) (drop (e .start) bs)) k → BodyNumber bs j k
+number-table bs j e k is not a = record {
+  circuit = λ c. absurd (not (ap (λ (x : Entry). x .kind) is ∙ c));
+  table = λ c. subst (λ (x : Entry). TableNumber (x .width) (bodyBytes bs j) k) is (subst (λ (l : List ℕ). TableNumber (e .width) l k) (part-law bs j e is) a);
+}
 
 -- ---- the number of the book
 module _ (bs : List ℕ) where

@@ -6,6 +6,7 @@ use Prim.Native.Nat.{ℕ}
 use native.Mathlib.Omega.{arith}
 use Rattle.body_read.specs.declared.Reading.{Reading}
 use Rattle.body_read.specs.Read.{Reads}
+use Rattle.book.specs.Book.{TableNumber}
 use Rattle.book.specs.Read.{Refused, Whole, body, TableAnswer}
 
 module _ (n : ℕ) (bs : List ℕ) (r : Reading) (R : Reads n bs r) where
@@ -27,3 +28,6 @@ module _ (n : ℕ) (bs : List ℕ) (r : Reading) (R : Reads n bs r) where
     sound = λ f k. ap (λ (x : Reading). body Whole (x .table)) (R .sound f k);
     normal = λ y. R .normal z;
   }
+
+  pub table-number : TableNumber n bs (r .refusal)
+  table-number = record { fault = λ f. of (R .fault f); broken = λ f k. of (R .broken f k); sound = λ f k. of (R .sound f k); normal = R .normal }

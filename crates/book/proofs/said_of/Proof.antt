@@ -1,7 +1,7 @@
 -- `said_of` meets its contract: the case that the match found is the definition's.
 use borrow.Author.Needs.{needs}
 use mathlib.Core.Path.{sym, ap}
-use Rattle.book.specs.Read.{saidOf}
+use Rattle.book.specs.Inner.Said.{saidOf}
 use Rattle.book.proofs.said_of.Statement.{statement}
 use Rattle.book.proofs.said_of.Tie as tie
 

@@ -3,8 +3,8 @@ use borrow.Author.Needs.{needs}
 use mathlib.Core.Path.{_≡_, sym, subst, _∙_}
 use Prim.Native.Nat.{_≤_, _+_, _-_}
 use native.Mathlib.Omega.{arith}
-use Rattle.book.specs.Book.{Clear}
-use Rattle.book.proofs.Laws.Number.{answer-number, clear-none, clear-next, book-contents, book-refused, book-clear}
+use Rattle.book.specs.Book.{BodyNumber, Clear}
+use Rattle.book.proofs.Laws.Number.{clear-none, clear-next, book-contents, book-refused, book-clear}
 use Rattle.book.proofs.test.Statement.{statement}
 use Rattle.book.proofs.test.Tie as tie
 
@@ -32,24 +32,20 @@ loop-holds c =
 sub-j : tie.Need-sub-j Inv-loop μ-loop
 sub-j c = omega arith
 
-body-at-requires : tie.Need-body-at-requires Inv-loop μ-loop
-body-at-requires c κs =
+fault-at-requires : tie.Need-fault-at-requires Inv-loop μ-loop
+fault-at-requires c κs =
     let m = c .before .before in
     (sym (m .before .before .test .ensures) ∙ m .before .if1 .left, omega (arith, m .count .ensures))
 
-said-number-requires : tie.Need-said-number-requires Inv-loop μ-loop
-said-number-requires c κs = search needs
-
 returns-2 : tie.Need-returns-2 Inv-loop μ-loop
 returns-2 c =
-    let bs = c .before .before .before .before .before .before .before .before .before .args .book .now in
-    let k = c .before .said-number in
-    let b = c .before .before .body-at in
-    let l = c .before .before .before .before .loop in
-    let m = c .before .before .before .before .before in
+    let bs = c .before .before .before .before .before .before .before .before .args .book .now in
+    let k = c .before .fault-at in
+    let l = c .before .before .before .loop in
+    let m = c .before .before .before .before in
     let j = m .count .result - l .left in
     book-refused bs j (k .result) (sym (m .before .before .test .ensures) ∙ m .before .if1 .left) (omega (arith, m .count .ensures)) (l .inv .1)
-    (answer-number bs j (b .result) (b .ensures) (k .result) (k .ensures)) (c .if2 .taken)
+    (k .ensures) (c .if2 .taken)
 
 sub-left : tie.Need-sub-left Inv-loop μ-loop
 sub-left c = omega arith
@@ -59,13 +55,12 @@ loop-less c = omega arith
 
 loop-again : tie.Need-loop-again Inv-loop μ-loop
 loop-again c =
-    let bs = c .before .before .before .before .before .before .before .before .before .args .book .now in
-    let k = c .before .said-number in
-    let b = c .before .before .body-at in
-    let l = c .before .before .before .before .loop in
-    let n = c .before .before .before .before .before .count .result in
+    let bs = c .before .before .before .before .before .before .before .before .args .book .now in
+    let k = c .before .fault-at in
+    let l = c .before .before .before .loop in
+    let n = c .before .before .before .before .count .result in
     let q : n - l .left + 1 ≡ n - (l .left - 1) = omega arith in
-    (omega arith, subst (Clear bs) q (clear-next bs (n - l .left) (l .inv .1) (answer-number bs (n - l .left) (b .result) (b .ensures) 0 (sym (c .if2 .left) ∙ k .ensures))))
+    (omega arith, subst (Clear bs) q (clear-next bs (n - l .left) (l .inv .1) (subst (BodyNumber bs (n - l .left)) (c .if2 .left) (k .ensures))))
 
 returns-3 : tie.Need-returns-3 Inv-loop μ-loop
 returns-3 c =
@@ -85,8 +80,7 @@ test-spec =
     count-requires
     loop-holds
     sub-j
-    body-at-requires
-    said-number-requires
+    fault-at-requires
     returns-2
     sub-left
     loop-less
