@@ -5,11 +5,11 @@ use borrow.Author.Needs.{needs}
 use Prim.Native.Nat.{ℕ, _≤_, _-_}
 use native.Mathlib.Omega.{arith}
 use lib.ListN.{length}
 use Rattle.contents.specs.Contents.{some}
-use Rattle.contents.specs.Lay.{badKind}
+use Rattle.contents_lay.specs.Lay.{badKind}
 use Rattle.contents.proofs.Laws.Some.{some-zero, some-next, some-here}
-use Rattle.contents.proofs.bad_kind.Statement.{statement}
-use Rattle.contents.proofs.bad_kind.Tie as tie
+use Rattle.contents_lay.proofs.bad_kind.Statement.{statement}
+use Rattle.contents_lay.proofs.bad_kind.Tie as tie
 
 abbrev Inv-loop : tie.InvT-loop
 Inv-loop kinds i₀ i = (i ≤ length kinds) × (some i (badKind kinds) ≡ false)

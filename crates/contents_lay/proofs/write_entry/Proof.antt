@@ -4,9 +4,9 @@ use mathlib.Core.List.{[], _∷_, _++_}
 use borrow.Author.Needs.{needs}
 use Rattle.fields.specs.Bytes.{le}
 use Rattle.fields.proofs.Laws.Front.{lent-front}
-use Rattle.contents.specs.Lay.{entryBytes}
-use Rattle.contents.proofs.write_entry.Statement.{statement}
-use Rattle.contents.proofs.write_entry.Tie as tie
+use Rattle.contents_lay.specs.Lay.{entryBytes}
+use Rattle.contents_lay.proofs.write_entry.Statement.{statement}
+use Rattle.contents_lay.proofs.write_entry.Tie as tie
 
 write-u8-requires : tie.Need-write-u8-requires
 write-u8-requires c κs = search needs

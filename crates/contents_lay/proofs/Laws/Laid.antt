@@ -8,8 +8,8 @@ use lib.ListN.{length, drop, getD, length-append}
 use Rattle.exact.specs.Sum.{total}
 use Rattle.fields.specs.Bytes.{le, front}
 use Rattle.fields.proofs.Laws.Front.{length-le, length-front, front-out}
-use Rattle.contents.specs.Lay.{Written, entryBytes, laidStart, entriesBytes, laidBytes, layNumber, unless, laidAnswer, laidArea, Laid}
-use Rattle.contents.proofs.Laws.Lay.{lay-lists}
+use Rattle.contents_lay.specs.Lay.{Written, entryBytes, laidStart, entriesBytes, laidBytes, layNumber, unless, laidAnswer, laidArea, Laid}
+use Rattle.contents_lay.proofs.Laws.Lay.{lay-lists}
 
 pub laid-zero : (ls : List ℕ) → 4 + 8 * length ls ≡ laidStart ls 0
 unfolding laidStart total

@@ -2,14 +2,14 @@
 use mathlib.Core.Path.{_≡_}
 use mathlib.Core.Bool.{Bool, not, _||_}
 use mathlib.Core.List.{List, [], _∷_, _++_}
-use Prim.Native.Nat.{ℕ, zero, suc, _+_, _*_, _≤_}
+use Prim.Native.Nat.{ℕ, zero, suc, _+_, _*_}
 use lib.Dec.{eqb, ltb}
 use lib.ListN.{length, getD}
 use Rattle.exact.specs.Refusal.{badHeader, badContents, areaShort, first, _gives_}
 use Rattle.exact.specs.Sum.{total}
 use Rattle.fields.specs.Bytes.{le, front}
 use Rattle.contents.specs.Contents.{some, goodKind}
-pub use Rattle.contents.specs.declared.Written.{Written}
+pub use Rattle.contents_lay.specs.declared.Written.{Written}
 
 -- "Bytes 0–3: 51 4E, edition 01, count k"
 abbrev pub headerBytes : ℕ → List ℕ
@@ -68,10 +68,3 @@ laidArea xs ks ws ls = unless (layNumber (length xs) ks ws ls) (front xs (laidBy
 pub record Laid (xs ks ws ls : List ℕ) (r : Written) (ys : List ℕ) : Type 0 where
   pub answer : r ≡ laidAnswer xs ks ws ls
   pub area : ys ≡ laidArea xs ks ws ls
-
--- what the writer of the entries is handed: equal lists of at most 16, and room
-pub record Entries (part ks ws ls : List ℕ) : Type 0 where
-  pub few : length ks ≤ 16
-  pub widths : length ws ≡ length ks
-  pub lengths : length ls ≡ length ks
-  pub room : 8 * length ks ≤ length part

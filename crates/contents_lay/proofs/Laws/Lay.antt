@@ -7,9 +7,9 @@ use native.Mathlib.Omega.{arith}
 use lib.Dec.{eqb, ltb}
 use lib.ListN.{length}
 use borrow.Author.Tests.{lt-ltb, le-ltb, eq-eqb, ne-eqb, eqb-true, ltb-true, ltb-false, not-false}
 use Rattle.contents.specs.Contents.{some}
-use Rattle.contents.specs.Lay.{laidStart, tooMany, badKind, badLists, layNumber}
+use Rattle.contents_lay.specs.Lay.{laidStart, tooMany, badKind, badLists, layNumber}
 use Rattle.contents.proofs.Laws.Some.{or-no-left, or-no-right}
 
 module _ (ks ws ls : List ℕ) where
   pub many-kinds : 16 < length ks → tooMany ks ws ls ≡ true

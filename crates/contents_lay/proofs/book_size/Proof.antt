@@ -3,10 +3,10 @@ use mathlib.Core.Path.{_≡_, ap, _∙_}
 use Prim.Native.Nat.{_≤_, _+_, _-_, _*_}
 use native.Mathlib.Omega.{arith}
 use lib.ListN.{length}
-use Rattle.contents.specs.Lay.{laidStart}
-use Rattle.contents.proofs.Laws.Laid.{laid-zero, laid-next}
-use Rattle.contents.proofs.book_size.Statement.{statement}
-use Rattle.contents.proofs.book_size.Tie as tie
+use Rattle.contents_lay.specs.Lay.{laidStart}
+use Rattle.contents_lay.proofs.Laws.Laid.{laid-zero, laid-next}
+use Rattle.contents_lay.proofs.book_size.Statement.{statement}
+use Rattle.contents_lay.proofs.book_size.Tie as tie
 
 abbrev Inv-loop : tie.InvT-loop
 Inv-loop lengths size₀ i₀ size i = (i ≤ length lengths) × (size ≡ laidStart lengths i) × (size ≤ 132 + 65535 * i)

@@ -7,10 +7,10 @@ use lib.ListN.{length, getD, length-drop}
 use borrow.Rule.Slice.PartMut.{same-len-mid}
 use Rattle.fields.specs.Bytes.{front}
 use Rattle.fields.proofs.Laws.Front.{lent-part, lent-front, front-none}
-use Rattle.contents.specs.Lay.{laidStart, entryBytes, entriesBytes}
-use Rattle.contents.proofs.Laws.Laid.{laid-zero, laid-next, length-entries, entries-next}
-use Rattle.contents.proofs.write_entries.Statement.{statement}
-use Rattle.contents.proofs.write_entries.Tie as tie
+use Rattle.contents_lay.specs.Lay.{laidStart, entryBytes, entriesBytes}
+use Rattle.contents_lay.proofs.Laws.Laid.{laid-zero, laid-next, length-entries, entries-next}
+use Rattle.contents_lay.proofs.write_entries.Statement.{statement}
+use Rattle.contents_lay.proofs.write_entries.Tie as tie
 
 abbrev Inv-loop : tie.InvT-loop
 Inv-loop part₀ kinds widths lengths start₀ j₀ part start j =

@@ -2,9 +2,9 @@
 use mathlib.Core.Path.{sym, _∙_}
 use borrow.Author.Needs.{needs}
 use native.Mathlib.Omega.{arith}
-use Rattle.contents.proofs.Laws.Lay.{many-kinds, many-widths, many-lengths, many-none, bad-widths, bad-lengths, bad-kinds, bad-total, bad-none, lay-nine, lay-ten, lay-thirteen, lay-zero}
-use Rattle.contents.proofs.lay_number.Statement.{statement}
-use Rattle.contents.proofs.lay_number.Tie as tie
+use Rattle.contents_lay.proofs.Laws.Lay.{many-kinds, many-widths, many-lengths, many-none, bad-widths, bad-lengths, bad-kinds, bad-total, bad-none, lay-nine, lay-ten, lay-thirteen, lay-zero}
+use Rattle.contents_lay.proofs.lay_number.Statement.{statement}
+use Rattle.contents_lay.proofs.lay_number.Tie as tie
 
 returns : tie.Need-returns
 returns c =

@@ -14,14 +14,14 @@ use Rattle.exact.proofs.Laws.Sum.{split, total-ext}
 use Rattle.fields.specs.Bytes.{byteAt, le, number}
 use Rattle.fields.proofs.Laws.Front.{length-le}
 use Rattle.fields.proofs.Laws.Number.{number-drop, number-take, number-le}
 use Rattle.contents.specs.Contents.{countOf, kindOf, widthOf, lengthOf, startOf, entryOf, bodyStart, headerFault, goodKind, entryFault, contentsNumber}
-use Rattle.contents.specs.Lay.{entryBytes, laidStart, entriesBytes, laidBytes, badKind, layNumber}
+use Rattle.contents_lay.specs.Lay.{entryBytes, laidStart, entriesBytes, laidBytes, badKind, layNumber}
 use Rattle.contents.proofs.Laws.Some.{some-none, none}
 use Rattle.contents.proofs.Laws.Entry.{entry-eq, fault-pass}
 use Rattle.contents.proofs.Laws.Header.{header-count}
 use Rattle.contents.proofs.Laws.Test.{number-none, contents-last}
-use Rattle.contents.proofs.Laws.Lay.{Lists, lay-lists}
-use Rattle.contents.proofs.Laws.Laid.{length-entry, length-entries, length-laid}
+use Rattle.contents_lay.proofs.Laws.Lay.{Lists, lay-lists}
+use Rattle.contents_lay.proofs.Laws.Laid.{length-entry, length-entries, length-laid}
 
 -- ---- a part of a sum
 total-part : (f : ℕ → ℕ) (n j : ℕ) → j < n → total j f + f j ≤ total n f

@@ -4,9 +4,9 @@ use native.Mathlib.Omega.{arith}
 use lib.ListN.{length-set}
 use lib.Seq.{sets-eq}
 use Rattle.fields.specs.Bytes.{front}
-use Rattle.contents.specs.Lay.{headerBytes}
-use Rattle.contents.proofs.write_header.Statement.{statement}
-use Rattle.contents.proofs.write_header.Tie as tie
+use Rattle.contents_lay.specs.Lay.{headerBytes}
+use Rattle.contents_lay.proofs.write_header.Statement.{statement}
+use Rattle.contents_lay.proofs.write_header.Tie as tie
 
 slice-write-part : tie.Need-slice-write-part
 slice-write-part c = search needs

@@ -4,11 +4,11 @@ use borrow.Author.Needs.{needs}
 use native.Mathlib.Omega.{arith}
 use lib.ListN.{length, length-drop}
 use Rattle.fields.proofs.Laws.Front.{lent-part, lent-front}
-use Rattle.contents.specs.Lay.{headerBytes, entriesBytes, laidBytes}
-use Rattle.contents.proofs.Laws.Lay.{Lists, lay-lists}
-use Rattle.contents.proofs.Laws.Laid.{refused, laid}
-use Rattle.contents.proofs.lay.Statement.{statement}
-use Rattle.contents.proofs.lay.Tie as tie
+use Rattle.contents_lay.specs.Lay.{headerBytes, entriesBytes, laidBytes}
+use Rattle.contents_lay.proofs.Laws.Lay.{Lists, lay-lists}
+use Rattle.contents_lay.proofs.Laws.Laid.{refused, laid}
+use Rattle.contents_lay.proofs.lay.Statement.{statement}
+use Rattle.contents_lay.proofs.lay.Tie as tie
 
 -- what is known of the lists that are not refused
 ok : (c : tie.Else1)
