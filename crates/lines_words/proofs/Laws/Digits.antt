@@ -7,7 +7,7 @@ use native.Mathlib.Omega.{arith}
 use borrow.Author.Tests.{lt-ltb, le-ltb}
 use lib.ListN.{length, length-append}
 use Rattle.exact.proofs.Laws.Sum.{split}
-use Rattle.lines.specs.Text.{lastDigits, digits}
+use Rattle.lines_words.specs.Text.{lastDigits, digits}
 
 one : (k n : ℕ) → n < 10 → lastDigits (suc k) n ≡ (48 + n) ∷ []
 unfolding lastDigits

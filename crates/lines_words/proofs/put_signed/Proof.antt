@@ -7,11 +7,11 @@ use lib.IntN.{ℤ, pos, natAbs}
 use lib.Signed.{ltZ}
 use mir.Syntax.{w32}
 use mir.ValLaws.{toZ-ofZ}
-use Rattle.lines.specs.Text.{letters, digits}
-use Rattle.lines.proofs.Laws.Laid.{laid-more, laid-text}
-use Rattle.lines.proofs.Laws.Signed.{text-below, text-above}
-use Rattle.lines.proofs.put_signed.Statement.{statement}
-use Rattle.lines.proofs.put_signed.Tie as tie
+use Rattle.lines_words.specs.Text.{letters, digits}
+use Rattle.lines_words.proofs.Laws.Laid.{laid-more, laid-text}
+use Rattle.lines_words.proofs.Laws.Signed.{text-below, text-above}
+use Rattle.lines_words.proofs.put_signed.Statement.{statement}
+use Rattle.lines_words.proofs.put_signed.Tie as tie
 
 put-byte-requires : tie.Need-put-byte-requires
 put-byte-requires c κs = search needs

@@ -1,9 +1,9 @@
 -- `lines::put_byte` meets its contract: the byte stands at its place, or was dropped beyond the end.
 use borrow.Author.Needs.{needs}
 use native.Mathlib.Omega.{arith}
-use Rattle.lines.proofs.Laws.Laid.{laid-byte, laid-dropped, laid-last}
-use Rattle.lines.proofs.put_byte.Statement.{statement}
-use Rattle.lines.proofs.put_byte.Tie as tie
+use Rattle.lines_words.proofs.Laws.Laid.{laid-byte, laid-dropped, laid-last}
+use Rattle.lines_words.proofs.put_byte.Statement.{statement}
+use Rattle.lines_words.proofs.put_byte.Tie as tie
 
 slice-write-area : tie.Need-slice-write-area
 slice-write-area c = search needs

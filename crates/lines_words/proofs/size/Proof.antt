@@ -9,9 +9,9 @@ use lib.Signed.{ltZ, nonNeg}
 use mir.Syntax.{w32, w64}
 use mir.Val.{SFits, Fits, toZ, ofZ}
 use mir.ValLaws.{toZ-ofZ}
-use Rattle.lines.proofs.Laws.Signed.{wide, size-fits, negated, not-below}
-use Rattle.lines.proofs.size.Statement.{statement}
-use Rattle.lines.proofs.size.Tie as tie
+use Rattle.lines_words.proofs.Laws.Signed.{wide, size-fits, negated, not-below}
+use Rattle.lines_words.proofs.size.Statement.{statement}
+use Rattle.lines_words.proofs.size.Tie as tie
 
 known : (c : tie.Then1) → toZ w32 (ofZ w32 (c .before .args .n)) ≡ c .before .args .n
 known c = toZ-ofZ w32 (c .before .args .n) (c .before .fits .n)

@@ -6,8 +6,8 @@ use native.Mathlib.Omega.{arith}
 use native.Mathlib.Numerals.{add-one}
 use lib.ListN.{length, getD, take, set}
 use lib.Seq.{take-suc}
-use Rattle.lines.specs.Overlay.{overlaid, top, after, Laid}
-use Rattle.lines.proofs.Laws.Overlay.{overlaid-length, overlaid-beyond, overlaid-front, overlaid-after, after-more}
+use Rattle.lines_words.specs.Overlay.{overlaid, top, after, Laid}
+use Rattle.lines_words.proofs.Laws.Overlay.{overlaid-length, overlaid-beyond, overlaid-front, overlaid-after, after-more}
 
 -- ---- what one writer leaves
 -- no text leaves all as it was

@@ -6,8 +6,8 @@ use Prim.Native.Nat.{ℕ, zero, suc, _+_, _-_, _*_, _/_, _%_, _≤_, _<_}
 use native.Mathlib.Omega.{arith}
 use lib.ListN.{length, getD}
 use Rattle.exact.proofs.Laws.Sum.{split}
-use Rattle.lines.specs.Text.{digits}
-use Rattle.lines.proofs.Laws.Digits.{digits-one, digits-more}
+use Rattle.lines_words.specs.Text.{digits}
+use Rattle.lines_words.proofs.Laws.Digits.{digits-one, digits-more}
 
 -- what holds of the digits below ten, and of any other number where it holds of a tenth of it, holds of all
 module _ (P : ℕ → Type 0) (low : (n : ℕ) → n < 10 → P n) (high : (n : ℕ) → 10 ≤ n → P (n / 10) → P n) where

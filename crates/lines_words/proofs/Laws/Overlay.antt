@@ -7,7 +7,7 @@ use native.Mathlib.Omega.{arith}
 use lib.ListN.{length, take, drop, set, length-append, length-set}
 use lib.Seq.{set-out, take-set-le, take-at, sets, sets-eq}
 use Rattle.exact.proofs.Laws.Sum.{split}
-use Rattle.lines.specs.Overlay.{overlaid, top, after}
+use Rattle.lines_words.specs.Overlay.{overlaid, top, after}
 
 -- the length stays
 pub overlaid-length : (xs : List ℕ) (at : ℕ) (bs : List ℕ) → length (overlaid xs at bs) ≡ length xs

@@ -1,18 +1,18 @@
--- `lines::put_number` meets its contract: a number below ten is its digit, any other has the digits of a tenth of it, then its last one. The measure is the number.
+-- `put_number` meets its contract: a number below ten is its digit, any other has the digits of a tenth of it, then its last one. The measure is the number.
 use borrow.Author.Needs.{needs}
 use native.Mathlib.Omega.{arith}
 use mathlib.Core.Path.{sym}
-use Rattle.lines.proofs.Laws.Digits.{digits-one, digits-more}
-use Rattle.lines.proofs.Laws.Laid.{laid-more, laid-text}
+use Rattle.lines_words.proofs.Laws.Digits.{digits-one, digits-more}
+use Rattle.lines_words.proofs.Laws.Laid.{laid-more, laid-text}
 use Prim.Native.Nat.{ℕ, _<_}
 use borrow.Fn.Kinds.{In}
 use borrow.Fn.PlainCycle.{Measures, is, falls, and}
-use Rattle.lines.proofs.put_number.Reads as put-number
-use Rattle.lines.proofs.put_number.Kinds as put-number-kinds
-use Rattle.lines.proofs.+put_number.Lts-put_number as put-number-lts
-use Rattle.lines.proofs.put_byte.Reads as put-byte-reads
-use Rattle.lines.proofs.+put_number.{statement}
-use Rattle.lines.proofs.+put_number.Tie.{close}
+use Rattle.lines_words.proofs.put_number.Reads as put-number
+use Rattle.lines_words.proofs.put_number.Kinds as put-number-kinds
+use Rattle.lines_words.proofs.+put_number.Lts-put_number as put-number-lts
+use Rattle.lines_words.proofs.put_byte.Reads as put-byte-reads
+use Rattle.lines_words.proofs.+put_number.{statement}
+use Rattle.lines_words.proofs.+put_number.Tie.{close}
 
 abbrev μ-put-number : Measures 1 put-number-kinds.ps ℕ
 μ-put-number κs a = a .1 .1 .0

@@ -11,7 +11,7 @@ use lib.IntN.{ℤ, pos, negsuc, natAbs, _-ℤ_}
 use lib.Signed.{ltZ, nonNeg}
 use mir.Syntax.{w32, w64}
 use mir.Val.{SFits}
-use Rattle.lines.specs.Text.{letters, digits, signedText}
+use Rattle.lines_words.specs.Text.{letters, digits, signedText}
 
 -- what fits in 32 bits fits in 64, and so does its size
 pub wide : (z : ℤ) → SFits w32 z → SFits w64 z
