@@ -1,2 +1,2 @@
-pub mod Body
+pub mod Table
 pub mod Read

@@ -1,13 +1,6 @@
-pub mod Slot
-pub mod Mask
-pub mod Packed
 pub mod Bytes
 pub mod Signed
-pub mod Read
 pub mod Body
-pub mod Sum
 pub mod First
-pub mod Normal
-pub mod Entry
 pub mod Same
 pub mod Write

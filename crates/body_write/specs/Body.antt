@@ -1,15 +1,13 @@
 -- A table's body as bytes.
 use mathlib.Core.Bool.{Bool, cond}
 use mathlib.Core.List.{List, [], _∷_, _++_}
-use Prim.Native.Nat.{ℕ, zero, suc, _+_, _-_, _*_, _≤_}
+use Prim.Native.Nat.{ℕ, zero, suc, _+_, _-_, _*_}
 use lib.Count.{ones}
 use lib.IntN.{ℤ, pos, negsuc}
-use lib.ListN.{length}
 use Rattle.fields.specs.Bytes.{le}
 use Rattle.state.specs.declared.State.{State}
 use Rattle.state.specs.Entry.{turn, row, tie, side, ties}
-use Rattle.state.specs.Normal.{InRange}
-use Rattle.body_write.specs.Slot.{slotAt, packedMask}
+use Rattle.body_pack.specs.Slot.{slotAt, packedMask}
 
 -- f 0, behind it f 1, .., behind it f (n − 1)
 unfoldable pub joined : ℕ → (ℕ → List ℕ) → List ℕ
@@ -51,10 +49,3 @@ unfoldable pub bodyBytes : State → List ℕ
 bodyBytes t =
     fieldBytes (t .zero) (t .form .phase .0) (t .power .0) (ones (t .live)) (λ i. turn t (slotAt (t .live) i))
     (λ i. packedMask (t .live) (row t (slotAt (t .live) i))) (ties t) (λ j. packedMask (t .live) (tie t j)) (side t)
-
--- what the writer of a body is handed: at most 64 slots and ties, a power that fits, and room
-pub record Fitting (part : List ℕ) (n : ℕ) (t : State) : Type 0 where
-  pub slots : n ≤ 64
-  pub few : ties t ≤ 64
-  pub range : InRange (t .power .0)
-  pub room : bodySize n (ties t) ≤ length part

@@ -1,4 +1,3 @@
-pub mod Slot
-pub mod Packed
 pub mod Body
 pub mod Write
+pub mod Inner

@@ -3,7 +3,4 @@ pub mod Entry
 pub mod Header
 pub mod Test
 pub mod Good
-pub mod Lay
-pub mod Laid
-pub mod Round
 pub mod Printed

@@ -1,7 +1,2 @@
 pub mod Worked
-pub mod Overlay
-pub mod Laid
-pub mod Digits
-pub mod Decimal
-pub mod Signed
 pub mod Lengths

@@ -1,3 +1,1 @@
-pub mod Overlay
-pub mod Text
 pub mod Lines

@@ -3,7 +3,7 @@ use mathlib.Core.List.{List, _++_}
 use Prim.Native.Nat.{ℕ}
 use Rattle.exact.specs.declared.Amount.{Amount}
 use Rattle.exact.specs.declared.Amount.the-variants.{Zero, Some}
-use Rattle.lines.specs.Text.{letters, digits, signedText}
+use Rattle.lines_words.specs.Text.{letters, digits, signedText}
 
 -- a word, a number and the newline
 unfoldable pub namedLine : List ℕ → ℕ → List ℕ

@@ -12,7 +12,7 @@ use Rattle.exact.specs.Amount.{none, some}
 use Rattle.state.specs.declared.State.{State}
 use Rattle.state.specs.Entry.{ties}
 use Rattle.contents.specs.Contents.{countOf}
-use Rattle.lines.specs.Overlay.{Laid}
+use Rattle.lines_words.specs.Overlay.{Laid}
 use Rattle.lines.specs.Lines.{bookLine, circuitLine, tableLine, refusedLine}
 use Rattle.book.specs.declared.Said.{Said}
 use Rattle.book.specs.declared.Said.the-variants.{Refused, Circuit, Whole}

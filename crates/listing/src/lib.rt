@@ -1,6 +1,6 @@
 // The listing of a book, written into a lent area.
 ghost use mathlib.Core.Path.{_≡_};
-ghost use Rattle.lines.specs.Overlay.{Laid};
+ghost use Rattle.lines_words.specs.Overlay.{Laid};
 ghost use Rattle.listing.specs.Listing.{tableAmount, bodyLine, Listed};
 use book::Body;
 use book::Said;

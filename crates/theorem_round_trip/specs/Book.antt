@@ -5,9 +5,9 @@ use Prim.Native.Nat.{ℕ, suc, _<_}
 use lib.ListN.{length, getD}
 use Rattle.exact.specs.Refusal.{accepted}
 use Rattle.fields.specs.Bytes.{over}
-use Rattle.contents.specs.declared.Written.{Written}
+use Rattle.contents_lay.specs.declared.Written.{Written}
 use Rattle.contents.specs.Contents.{countOf, kindOf, widthOf, lengthOf, contentsNumber}
-use Rattle.contents.specs.Lay.{laidStart, laidBytes, Laid}
+use Rattle.contents_lay.specs.Lay.{laidStart, laidBytes, Laid}
 use Rattle.body_write.specs.Body.{joined}
 use Rattle.book.specs.Book.{bodyBytes, circuitBodyNumber, TableNumber, BookNumber}
 

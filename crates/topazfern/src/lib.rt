@@ -1,6 +1,6 @@
 // The calls for bench software in C: over numbers and byte slices alone. Each takes any bytes and any numbers; where it answers a number of refusal, nothing that was lent has changed, but that a writer answers 0 bytes.
 ghost use mathlib.Core.Path.{_≡_};
-ghost use Rattle.contents.specs.Lay.{Laid};
+ghost use Rattle.contents_lay.specs.Lay.{Laid};
 ghost use Rattle.listing.specs.Listing.{Listed};
 ghost use Rattle.topazfern.specs.Told.{behind, told, Tells, AmplitudeTold, EntryTold, WriteTold, six, ReadTold};
 use book::Said;
@@ -134,7 +134,7 @@ pub extern "C" fn topazfern_lay(
 ) -> u8
     ensures { λ n. ⌜ Laid (now (area .entry)) (now (kinds .entry)) (now (widths .entry)) (now (lengths .entry)) (record { refusal = n; bytes = now (bytes .exit) }) (now (area .exit)) ⌝ }
 {
-    let w = contents::lay(area, kinds, widths, lengths);
+    let w = contents_lay::lay(area, kinds, widths, lengths);
     let n = w.bytes;
     *bytes = n;
     w.refusal

@@ -41,7 +41,7 @@ fn is_amount(v: Value, n: u64, power: i32, phase: u8) -> bool {
     if 0 < power {
         return false;
     }
-    let below = lines::size(power);
+    let below = lines_words::size(power);
     if n < below {
         return false;
     }

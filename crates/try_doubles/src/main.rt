@@ -40,7 +40,7 @@ fn show(power: i32, phase: u8) {
     if power < 0 {
         io::write_all(1, b"-");
     }
-    io::print_decimal(1, lines::size(power));
+    io::print_decimal(1, lines_words::size(power));
     io::write_all(1, b" ");
     io::print_decimal(1, phase as u64);
     patterns(power, phase);

@@ -66,21 +66,21 @@ fn form_moved(f: Form, v: usize, p: u64) -> Tally {
 // Four questions to ties: 64 places are looked at, whatever the count.
 fn ties_asked(t: Ties, v: usize, p: u64) -> Tally {
     Tally::none()
-        .with(t.hold_at(p) == plain::hold(t, p))
-        .with(t.reduce(p, 200).side < 2)
-        .with(t.lead_index(Slot(v)) <= 64)
-        .with(t.last_with(Slot(v)) == plain::last(t, true, v))
+        .with(ties_search::hold_at(t, p) == plain::hold(t, p))
+        .with(ties_search::reduce(t, p, 200).side < 2)
+        .with(ties_search::lead_index(t, Slot(v)) <= 64)
+        .with(ties_search::last_with(t, Slot(v)) == plain::last(t, true, v))
 }
 
 // Five moves of ties: there is no room for one more, and one of the 1000 can be taken out.
 fn ties_moved(t: Ties, v: usize, p: u64) -> Tally {
     let rest = if v < 1000 { 999 } else { 1000 };
     Tally::none()
-        .with(t.insert(p, 200).count == 1000)
-        .with(t.adjoin(p, 200).count == 1000)
-        .with(t.mix(v, Slot(v)).count == 1000)
-        .with(t.drop(v).count == rest)
-        .with(t.use_up(v, Slot(v)).count == rest)
+        .with(ties_moves::insert(t, p, 200).count == 1000)
+        .with(ties_moves::adjoin(t, p, 200).count == 1000)
+        .with(ties_moves::mix(t, v, Slot(v)).count == 1000)
+        .with(ties_moves::drop(t, v).count == rest)
+        .with(ties_moves::use_up(t, v, Slot(v)).count == rest)
 }
 
 // The 18 calls of a stream.

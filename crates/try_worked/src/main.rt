@@ -19,7 +19,7 @@ fn show_amount(a: Amount) {
             if power.0 < 0 {
                 io::write_all(1, b"-");
             }
-            io::print_decimal(1, lines::size(power.0));
+            io::print_decimal(1, lines_words::size(power.0));
             io::write_all(1, b" ");
             io::print_decimal(1, phase.0 as u64);
         }

@@ -12,7 +12,7 @@ use Rattle.exact.proofs.Laws.Sum.{split}
 use Rattle.bits.proofs.Laws.Bit.{same-or}
 use Rattle.fields.specs.Listed.{listed}
 use Rattle.fields.proofs.Laws.Listed.{length-listed, listed-at}
-use Rattle.body_read.specs.Body.{padded}
+use Rattle.body_read.specs.Table.{padded}
 
 module _ {A : Type 0} (d : A) (n : ℕ) (f : ℕ → A) where
   pub length-padded : length (padded d n f) ≡ 64

@@ -9,7 +9,8 @@ use Rattle.form.specs.Form.{quarter}
 use Rattle.form.specs.declared.Form.{Form}
 use Rattle.ties.specs.declared.Ties.{Ties}
 use Rattle.state.specs.declared.State.{State}
-use Rattle.body_read.specs.Body.{markOf, phaseOf, powerOf, quarterOf, rowOf, countOf, maskOf, sideOf, padded, formOf, tiesOf, tableOf}
+use Rattle.body_fault.specs.Body.{markOf, phaseOf, powerOf, rowOf, countOf, maskOf, sideOf}
+use Rattle.body_read.specs.Table.{quarterOf, padded, formOf, tiesOf, tableOf}
 
 module _ (n : ℕ) (bs : List ℕ) where
   pub form-is : (c : ℕ) (turns : List Quarter) (signs : List ℕ) → c ≡ phaseOf bs → turns ≡ padded (quarter 0) n (quarterOf bs) → signs ≡ padded 0 n (rowOf n bs)

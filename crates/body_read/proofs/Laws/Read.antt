@@ -10,7 +10,8 @@ use Rattle.exact.specs.Refusal.{accepted, badBody, notNormal}
 use Rattle.state.specs.declared.State.{State}
 use Rattle.state.specs.Entry.{freshTable}
 use Rattle.state.specs.Normal.{Normal}
-use Rattle.body_read.specs.Body.{bodyFault, tableOf}
+use Rattle.body_fault.specs.Body.{bodyFault}
+use Rattle.body_read.specs.Table.{tableOf}
 use Rattle.body_read.specs.Read.{Reading, reading, Reads}
 
 -- two ways of one test

@@ -15,9 +15,10 @@ use Rattle.form.specs.Form.{quarter, turnAt, rowAt}
 use Rattle.ties.specs.Ties.{maskAt, sideAt, leadAt}
 use Rattle.state.specs.Entry.{turn, row, tie, side, lead, Live, Free}
 use Rattle.state.specs.Normal.{InRange}
-use Rattle.body_read.specs.Body.{phaseOf, powerOf, turnOf, quarterOf, rowOf, countOf, maskOf, sideOf, formOf, tiesOf, tableOf}
+use Rattle.body_fault.specs.Body.{phaseOf, powerOf, turnOf, rowOf, countOf, maskOf, sideOf}
+use Rattle.body_read.specs.Table.{quarterOf, formOf, tiesOf, tableOf}
 use Rattle.body_read.proofs.Laws.Padded.{length-padded, padded-in, padded-out}
-use Rattle.body_read.proofs.Laws.Fine.{Fine}
+use Rattle.body_fault.proofs.Laws.Fine.{Fine}
 
 module _ (n : ℕ) (bs : List ℕ) where
   -- ---- of any bytes: how long the lists are, what lies beyond the width and beyond the ties

@@ -7,7 +7,7 @@ use lib.ListN.{set}
 use borrow.Author.Needs.{needs}
 use Rattle.form.specs.Form.{quarter}
 use Rattle.exact.specs.declared.Quarter.{Quarter}
-use Rattle.body_read.specs.Body.{quarterOf, padded}
+use Rattle.body_read.specs.Table.{quarterOf, padded}
 use Rattle.body_read.proofs.Laws.Padded.{padded-none, padded-next, padded-end}
 use Rattle.body_read.proofs.turns_of.Statement.{statement}
 use Rattle.body_read.proofs.turns_of.Tie as tie

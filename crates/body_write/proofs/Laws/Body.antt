@@ -11,10 +11,11 @@ use Rattle.fields.specs.Bytes.{le, front}
 use Rattle.state.specs.declared.State.{State}
 use Rattle.state.specs.Entry.{ties}
 use Rattle.state.specs.Normal.{Normal}
-use Rattle.body_write.specs.Packed.{packedForm, packedTies, packedTable}
-use Rattle.body_write.specs.Body.{headBytes, tieBytes, fieldBytes, bodySize, plainBytes, bodyBytes, Fitting}
+use Rattle.body_pack.specs.Packed.{packedForm, packedTies, packedTable}
+use Rattle.body_write.specs.Body.{headBytes, tieBytes, fieldBytes, bodySize, plainBytes, bodyBytes}
+use Rattle.body_write.specs.Inner.Fitting.{Fitting}
 use Rattle.body_write.proofs.Laws.Bytes.{joined-ext, length-fields}
-use Rattle.body_write.proofs.Laws.Read.{ones-small, turn-at, row-at, mask-at, side-at}
+use Rattle.body_pack.proofs.Laws.Read.{ones-small, turn-at, row-at, mask-at, side-at}
 
 -- the same numbers give the same bytes
 pub fields-ext : (zeroed : Bool) (c : ℕ) (s : ℤ) (n : ℕ) (a a′ b b′ : ℕ → ℕ) (k : ℕ) (m m′ r r′ : ℕ → ℕ)

@@ -11,10 +11,10 @@ use Rattle.bits.proofs.Laws.Bit.{bit-ext}
 use Rattle.bits.proofs.Laws.Parity.{ones-total}
 use Rattle.state.specs.declared.State.{State}
 use Rattle.state.specs.Entry.{turn, row, tie, side, ties}
-use Rattle.body_write.specs.Slot.{rank, slotAt, packedMask}
+use Rattle.body_pack.specs.Slot.{rank, slotAt, packedMask}
 use Rattle.body_write.specs.Body.{fieldBytes, plainBytes, bodyBytes}
-use Rattle.body_write.proofs.Laws.Slot.{rank-none, rank-more, slot-rank}
-use Rattle.body_write.proofs.Laws.Mask.{packed-bit, packed-lt}
+use Rattle.body_pack.proofs.Laws.Slot.{rank-none, rank-more, slot-rank}
+use Rattle.body_pack.proofs.Laws.Mask.{packed-bit, packed-lt}
 use Rattle.body_write.proofs.Laws.Body.{fields-ext}
 
 rank-first : (n v : ℕ) → v ≤ n → rank (2 ^ n - 1) v ≡ v

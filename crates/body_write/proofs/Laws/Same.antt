@@ -15,13 +15,13 @@ use Rattle.state.specs.declared.State.{State}
 use Rattle.state.specs.Entry.{ties}
 use Rattle.state.specs.Normal.{Normal}
 use Rattle.state.proofs.Laws.First.{free-from, row-low, tie-low}
-use Rattle.body_write.specs.Slot.{slotAt, packedMask}
-use Rattle.body_write.specs.Packed.{packedTies, packedTable}
+use Rattle.body_pack.specs.Slot.{slotAt, packedMask}
+use Rattle.body_pack.specs.Packed.{packedTies, packedTable}
 use Rattle.body_write.specs.Body.{plainBytes, bodyBytes}
-use Rattle.body_write.proofs.Laws.Packed.{turnPacked, rowPacked, form-done}
-use Rattle.body_write.proofs.Laws.Read.{mask-at, side-at, slot-beyond}
+use Rattle.body_pack.proofs.Laws.Packed.{turnPacked, rowPacked, form-done}
+use Rattle.body_pack.proofs.Laws.Read.{mask-at, side-at, slot-beyond}
 use Rattle.body_write.proofs.Laws.First.{ones-first, slot-first, packed-first, body-first}
-use Rattle.body_write.proofs.Laws.Normal.{packed-reduced}
+use Rattle.body_pack.proofs.Laws.Normal.{packed-reduced}
 
 module _ (t : State) (N : Normal t) (n : ℕ) (l : n ≤ 64) (e : t .live ≡ 2 ^ n - 1) where
   -- its body, slot by slot

@@ -13,7 +13,8 @@ use Rattle.state.specs.Normal.{Normal}
 use Rattle.circuit.proofs.Laws.Amplitude.{no-second}
 use Rattle.contents.specs.Contents.{countOf, widthOf, entryOf, contentsNumber}
 use Rattle.contents.proofs.Laws.Good.{good}
-use Rattle.body_read.specs.Body.{bodyFault, tableOf}
+use Rattle.body_fault.specs.Body.{bodyFault}
+use Rattle.body_read.specs.Table.{tableOf}
 use Rattle.book.specs.Book.{inputOf, outputOf, gatesOf, bodyBytes, circuitBodyNumber, TableNumber, BodyNumber, Clear, Refuses, BodiesNumber, BookNumber}
 use Rattle.book.specs.Read.{Body, saidNumber, saidAmount, refusal, amplitude, CircuitAnswer, TableAnswer, ReadsBody}
 use Rattle.book.proofs.Laws.Number.{contents-good}

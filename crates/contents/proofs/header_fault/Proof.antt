@@ -1,41 +1,46 @@
 -- `header_fault` meets its contract: test by test.
-use borrow.Author.Needs.{needs}
+use mathlib.Core.Path.{ap, _∙_}
+use Prim.Native.Nat.{ℕ}
 use native.Mathlib.Omega.{arith}
+use lib.Dec.{ltb}
+use borrow.Author.Needs.{needs}
+use Rattle.contents.specs.Contents.{countOf}
 use Rattle.contents.proofs.Laws.Header.{header-short, header-long, header-first, header-second, header-edition, header-count}
 use Rattle.contents.proofs.header_fault.Statement.{statement}
 use Rattle.contents.proofs.header_fault.Tie as tie
 
 returns : tie.Need-returns
-returns c = header-short (c .before .args .bs .now) (omega arith)
+returns c = header-short (c .before .before .args .bs .now) (omega arith)
 
 returns-2 : tie.Need-returns-2
-returns-2 c = header-long (c .before .before .args .bs .now) (omega arith) (omega arith)
+returns-2 c = header-long (c .before .before .before .args .bs .now) (omega arith) (omega arith)
 
 shared-slice-read-if3 : tie.Need-shared-slice-read-if3
 shared-slice-read-if3 c = search needs
 
 returns-3 : tie.Need-returns-3
-returns-3 c = header-first (c .before .before .before .before .args .bs .now) (omega arith) (omega arith) (c .if3 .taken)
+returns-3 c = header-first (c .before .before .before .before .before .args .bs .now) (omega arith) (omega arith) (c .if3 .taken)
 
 shared-slice-read-if4 : tie.Need-shared-slice-read-if4
 shared-slice-read-if4 c = search needs
 
 returns-4 : tie.Need-returns-4
-returns-4 c = header-second (c .before .before .before .before .before .before .args .bs .now) (omega arith) (omega arith) (c .before .before .if3 .left) (c .if4 .taken)
+returns-4 c = header-second (c .before .before .before .before .before .before .before .args .bs .now) (omega arith) (omega arith) (c .before .before .if3 .left) (c .if4 .taken)
 
 shared-slice-read-if5 : tie.Need-shared-slice-read-if5
 shared-slice-read-if5 c = search needs
 
 returns-5 : tie.Need-returns-5
 returns-5 c =
-    header-edition (c .before .before .before .before .before .before .before .before .args .bs .now) (omega arith) (omega arith) (c .before .before .before .before .if3 .left) (c .before .before .if4 .left) (c .if5 .taken)
+    header-edition (c .before .before .before .before .before .before .before .before .before .args .bs .now) (omega arith) (omega arith) (c .before .before .before .before .if3 .left) (c .before .before .if4 .left) (c .if5 .taken)
 
-shared-slice-read-result : tie.Need-shared-slice-read-result
-shared-slice-read-result c = search needs
+count-requires : tie.Need-count-requires
+count-requires c κs = search needs
 
 returns-6 : tie.Need-returns-6
+unfolding countOf
 returns-6 c =
-    header-count (c .before .before .before .before .before .before .before .before .before .args .bs .now) (omega arith) (omega arith) (c .before .before .before .before .before .if3 .left) (c .before .before .before .if4 .left) (c .before .if5 .left)
+    ap (λ (n : ℕ). ltb 16 n) (c .count .ensures) ∙ header-count (c .before .before .before .before .before .before .before .before .before .before .args .bs .now) (omega arith) (omega arith) (c .before .before .before .before .before .if3 .left) (c .before .before .before .if4 .left) (c .before .if5 .left)
 
 pub header-fault-spec : {M : Type 1} → statement M
 header-fault-spec =
@@ -49,5 +54,5 @@ header-fault-spec =
     returns-4
     shared-slice-read-if5
     returns-5
-    shared-slice-read-result
+    count-requires
     returns-6)

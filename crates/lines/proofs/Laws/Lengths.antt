@@ -5,9 +5,9 @@ use lib.IntN.{ℤ, pos, negsuc, natAbs}
 use lib.ListN.{length, length-append}
 use Rattle.exact.specs.declared.Amount.{Amount}
 use Rattle.exact.specs.declared.Amount.the-variants.{Zero, Some}
-use Rattle.lines.specs.Text.{letters, digits, signedText}
+use Rattle.lines_words.specs.Text.{letters, digits, signedText}
 use Rattle.lines.specs.Lines.{namedLine, bookLine, amountText, circuitLine, countsText, tableLine, refusedLine}
-use Rattle.lines.proofs.Laws.Digits.{digits-length}
+use Rattle.lines_words.proofs.Laws.Digits.{digits-length}
 
 -- an amount in its range: "a power from −2,000 to 2,000", "a phase c (0..7)"
 abbrev pub InRange : Amount → Type 0

@@ -3,7 +3,7 @@ use mathlib.Core.Path.{_≡_, refl}
 use mathlib.Core.List.{[], _∷_, _++_}
 use lib.IntN.{pos, negsuc}
 use Rattle.exact.specs.Amount.{none, some}
-use Rattle.lines.specs.Text.{letters, lastDigits, digits, signedText}
+use Rattle.lines_words.specs.Text.{letters, lastDigits, digits, signedText}
 use Rattle.lines.specs.Lines.{namedLine, bookLine, amountText, circuitLine, countsText, tableLine, refusedLine}
 
 -- ---- numbers

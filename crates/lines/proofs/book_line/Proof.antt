@@ -1,6 +1,6 @@
 -- `lines::book_line` meets its contract: it is the line of its word and number.
 use borrow.Author.Needs.{needs}
-use Rattle.lines.specs.Text.{letters}
+use Rattle.lines_words.specs.Text.{letters}
 use Rattle.lines.specs.Lines.{bookLine}
 use Rattle.lines.proofs.book_line.Statement.{statement}
 use Rattle.lines.proofs.book_line.Tie as tie

@@ -6,10 +6,10 @@ use native.Mathlib.Omega.{arith}
 use lib.ListN.{length}
 use mir.Syntax.{w32}
 use mir.ValLaws.{toZ-ofZ}
-use Rattle.lines.specs.Overlay.{top}
-use Rattle.lines.specs.Text.{letters, signedText}
+use Rattle.lines_words.specs.Overlay.{top}
+use Rattle.lines_words.specs.Text.{letters, signedText}
 use Rattle.lines.specs.Lines.{amountText}
-use Rattle.lines.proofs.Laws.Laid.{laid-more, laid-text}
+use Rattle.lines_words.proofs.Laws.Laid.{laid-more, laid-text}
 use Rattle.lines.proofs.put_amount.Statement.{statement}
 use Rattle.lines.proofs.put_amount.Tie as tie
 

@@ -4,10 +4,10 @@ use mathlib.Core.Path.{sym, ap}
 use Prim.Native.Nat.{_≤_}
 use native.Mathlib.Omega.{arith}
 use lib.ListN.{length}
-use Rattle.lines.specs.Overlay.{top}
-use Rattle.lines.specs.Text.{letters}
+use Rattle.lines_words.specs.Overlay.{top}
+use Rattle.lines_words.specs.Text.{letters}
 use Rattle.lines.specs.Lines.{countsText}
-use Rattle.lines.proofs.Laws.Laid.{laid-more, laid-text}
+use Rattle.lines_words.proofs.Laws.Laid.{laid-more, laid-text}
 use Rattle.lines.proofs.put_counts.Statement.{statement}
 use Rattle.lines.proofs.put_counts.Tie as tie
 

@@ -3,10 +3,10 @@ use borrow.Author.Needs.{needs}
 use Prim.Native.Nat.{_≤_}
 use native.Mathlib.Omega.{arith}
 use lib.ListN.{length}
-use Rattle.lines.specs.Overlay.{top}
-use Rattle.lines.specs.Text.{letters}
+use Rattle.lines_words.specs.Overlay.{top}
+use Rattle.lines_words.specs.Text.{letters}
 use Rattle.lines.specs.Lines.{tableLine}
-use Rattle.lines.proofs.Laws.Laid.{laid-more}
+use Rattle.lines_words.proofs.Laws.Laid.{laid-more}
 use Rattle.lines.proofs.table_line.Statement.{statement}
 use Rattle.lines.proofs.table_line.Tie as tie
 

@@ -4,8 +4,8 @@ use mathlib.Core.Path.{_≡_}
 use Prim.Native.Nat.{ℕ, _≤_}
 use native.Mathlib.Omega.{arith}
 use lib.ListN.{length, take}
-use Rattle.lines.specs.Overlay.{top}
-use Rattle.lines.proofs.Laws.Laid.{laid-length, laid-place, laid-front}
+use Rattle.lines_words.specs.Overlay.{top}
+use Rattle.lines_words.proofs.Laws.Laid.{laid-length, laid-place, laid-front}
 use Rattle.listing.specs.Listing.{Listed}
 
 module _ (bs xs ys : List ℕ) (r : ℕ) (L : Listed bs xs ys r) (room : 312 ≤ length xs) where

@@ -6,7 +6,7 @@ use Prim.Native.Nat.{ℕ}
 use Rattle.bits.proofs.Laws.Bit.{same-or}
 use Rattle.contents.specs.Contents.{countOf}
 use Rattle.lines.specs.Lines.{bookLine, refusedLine}
-use Rattle.lines.proofs.Laws.Laid.{laid-text, no-second}
+use Rattle.lines_words.proofs.Laws.Laid.{laid-text, no-second}
 use Rattle.book.proofs.Laws.Only.{one-number, one-body}
 use Rattle.listing.specs.Listing.{bodyLines, Listing, Listed}
 use Rattle.listing.proofs.Laws.Sofar.{lines-same}

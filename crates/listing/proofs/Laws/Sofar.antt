@@ -11,9 +11,9 @@ use lib.Dec.{eqb}
 use lib.ListN.{length}
 use Rattle.exact.proofs.Laws.Sum.{split}
 use Rattle.contents.specs.Contents.{countOf}
-use Rattle.lines.specs.Overlay.{top, Laid}
+use Rattle.lines_words.specs.Overlay.{top, Laid}
 use Rattle.lines.specs.Lines.{bookLine, refusedLine}
-use Rattle.lines.proofs.Laws.Laid.{laid-none, laid-length, laid-more, laid-text}
+use Rattle.lines_words.proofs.Laws.Laid.{laid-none, laid-length, laid-more, laid-text}
 use Rattle.book.specs.Book.{BookNumber}
 use Rattle.book.specs.declared.Body.{Body}
 use Rattle.book.specs.Read.{refusal, ReadsBody}

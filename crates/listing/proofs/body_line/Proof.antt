@@ -7,7 +7,7 @@ use Rattle.exact.specs.declared.Amount.{Amount}
 use Rattle.state.specs.Entry.{ties}
 use Rattle.lines.specs.Lines.{tableLine}
 use Rattle.book.specs.declared.Said.{Said}
-use Rattle.lines.proofs.Laws.Laid.{laid-none, laid-text}
+use Rattle.lines_words.proofs.Laws.Laid.{laid-none, laid-text}
 use Rattle.listing.specs.Listing.{bodyLine}
 use Rattle.listing.proofs.body_line.Statement.{statement}
 use Rattle.listing.proofs.body_line.Tie as tie

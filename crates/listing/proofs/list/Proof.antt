@@ -4,9 +4,9 @@ use native.Mathlib.Omega.{arith}
 use mathlib.Core.Path.{ap, _∙_}
 use Prim.Native.Nat.{_≤_, _-_}
 use lib.ListN.{length}
-use Rattle.lines.specs.Overlay.{top}
+use Rattle.lines_words.specs.Overlay.{top}
 use Rattle.lines.specs.Lines.{bookLine}
-use Rattle.lines.proofs.Laws.Laid.{laid-length, laid-text}
+use Rattle.lines_words.proofs.Laws.Laid.{laid-length, laid-text}
 use Rattle.book.proofs.Laws.Number.{contents-good}
 use Rattle.book.proofs.Laws.Read.{reads-answer}
 use Rattle.listing.proofs.Laws.Sofar.{Sofar, few, narrow, begun, grown, whole, single}

@@ -8,9 +8,9 @@ use Rattle.exact.specs.Refusal.{accepted}
 use Rattle.fields.specs.Bytes.{front, over}
 use Rattle.fields.proofs.Laws.Front.{front-more, take-front}
 use Rattle.fields.proofs.Laws.Over.{over-front}
-use Rattle.contents.specs.declared.Written.{Written}
-use Rattle.contents.specs.Lay.{laidStart, laidBytes, layNumber, laidAnswer}
-use Rattle.contents.proofs.Laws.Laid.{length-laid, laid-area}
+use Rattle.contents_lay.specs.declared.Written.{Written}
+use Rattle.contents_lay.specs.Lay.{laidStart, laidBytes, layNumber, laidAnswer}
+use Rattle.contents_lay.proofs.Laws.Laid.{length-laid, laid-area}
 use Rattle.body_write.specs.Body.{joined}
 use Rattle.theorem_round_trip.specs.Book.{laidBook, Fits, Holds, PutTogether}
 use Rattle.theorem_round_trip.proofs.Laws.Book.{starts, ends, laid-book}

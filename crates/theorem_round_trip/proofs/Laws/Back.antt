@@ -9,17 +9,18 @@ use Rattle.state.specs.declared.State.{State}
 use Rattle.state.specs.Entry.{entry, turn, row, tie, side, ties}
 use Rattle.state.specs.Normal.{Normal}
 use Rattle.theorem_canon.proofs.Laws.Spread.{ties-fit}
-use Rattle.body_write.specs.Packed.{packedTies, packedTable, unpacked}
+use Rattle.body_pack.specs.Packed.{packedTies, packedTable, unpacked}
 use Rattle.body_write.specs.Body.{plainBytes, bodyBytes}
-use Rattle.body_write.proofs.Laws.Read.{ones-small}
+use Rattle.body_pack.proofs.Laws.Read.{ones-small}
 use Rattle.body_write.proofs.Laws.Bytes.{length-fields}
 use Rattle.body_write.proofs.Laws.Body.{body-plain}
-use Rattle.body_write.proofs.Laws.Normal.{packed-normal}
-use Rattle.body_write.proofs.Laws.Entry.{packed-entry}
+use Rattle.body_pack.proofs.Laws.Normal.{packed-normal}
+use Rattle.body_pack.proofs.Laws.Entry.{packed-entry}
 use Rattle.body_read.specs.declared.Reading.{Reading}
-use Rattle.body_read.specs.Body.{bodyFault, tableOf}
+use Rattle.body_fault.specs.Body.{bodyFault}
+use Rattle.body_read.specs.Table.{tableOf}
 use Rattle.body_read.specs.Read.{reading, Reads}
-use Rattle.body_read.proofs.Laws.Fine.{not-refused}
+use Rattle.body_fault.proofs.Laws.Fine.{not-refused}
 use Rattle.body_read.proofs.Laws.Stated.{States, stated, stated-fine, stated-read}
 use Rattle.theorem_round_trip.proofs.Laws.Written.{mark-is, phase-is, power-is, turn-is, row-is, count-is, tie-is, side-is}
 

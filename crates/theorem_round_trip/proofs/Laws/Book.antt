@@ -10,10 +10,10 @@ use Rattle.exact.specs.Sum.{total}
 use Rattle.exact.proofs.Laws.Sum.{total-ext}
 use Rattle.contents.specs.declared.Entry.{Entry}
 use Rattle.contents.specs.Contents.{kindOf, widthOf, lengthOf, startOf}
-use Rattle.contents.specs.Lay.{laidStart, laidBytes, layNumber}
-use Rattle.contents.proofs.Laws.Lay.{lay-lists}
-use Rattle.contents.proofs.Laws.Laid.{length-laid}
-use Rattle.contents.proofs.Laws.Round.{Round, round}
+use Rattle.contents_lay.specs.Lay.{laidStart, laidBytes, layNumber}
+use Rattle.contents_lay.proofs.Laws.Lay.{lay-lists}
+use Rattle.contents_lay.proofs.Laws.Laid.{length-laid}
+use Rattle.contents_lay.proofs.Laws.Round.{Round, round}
 use Rattle.body_write.specs.Body.{joined}
 use Rattle.book.specs.Book.{bodyBytes, circuitBodyNumber, TableNumber, BodyNumber}
 use Rattle.book.proofs.Laws.Number.{book-clear}

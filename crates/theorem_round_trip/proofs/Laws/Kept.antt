@@ -9,9 +9,9 @@ use Rattle.exact.specs.Refusal.{accepted}
 use Rattle.state.specs.declared.State.{State}
 use Rattle.state.specs.Entry.{entry}
 use Rattle.state.specs.Normal.{Normal}
-use Rattle.body_write.specs.Packed.{packedTable, unpacked}
+use Rattle.body_pack.specs.Packed.{packedTable, unpacked}
 use Rattle.body_write.specs.Body as pack
-use Rattle.body_write.proofs.Laws.Entry.{packed-entry}
+use Rattle.body_pack.proofs.Laws.Entry.{packed-entry}
 use Rattle.book.specs.declared.Body.{Body}
 use Rattle.book.specs.Book.{bodyBytes, TableNumber}
 use Rattle.book.specs.Read.{whole, TableAnswer, ReadsBody}

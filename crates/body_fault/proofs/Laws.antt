@@ -1,0 +1,4 @@
+pub mod Fault
+pub mod Fine
+pub mod Out
+pub mod Signed

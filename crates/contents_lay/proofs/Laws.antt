@@ -1,0 +1,3 @@
+pub mod Lay
+pub mod Laid
+pub mod Round

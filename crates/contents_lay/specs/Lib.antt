@@ -1,0 +1,2 @@
+pub mod Lay
+pub mod Inner

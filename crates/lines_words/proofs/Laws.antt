@@ -1,0 +1,5 @@
+pub mod Overlay
+pub mod Laid
+pub mod Digits
+pub mod Decimal
+pub mod Signed
