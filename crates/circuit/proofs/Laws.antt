@@ -1,15 +1,3 @@
-pub mod Put
-pub mod Even
-pub mod Tied
-pub mod Shift
-pub mod Hadamard
-pub mod Wires
-pub mod Gates
-pub mod Kept
-pub mod Composed
-pub mod Swap
-pub mod Begin
-pub mod Spell
 pub mod Run
 pub mod Number
 pub mod Amplitude

@@ -1,4 +1,2 @@
-pub mod Bit
-pub mod Wires
-pub mod Run
 pub mod Amplitude
+pub mod Inner

@@ -16,7 +16,7 @@ use Rattle.state.specs.declared.State.{State}
 use Rattle.state.specs.Entry.{ties}
 use Rattle.state.specs.Normal as normal
 use Rattle.state.specs.Normal.{Normal}
-use Rattle.circuit.specs.Run.{Near}
+use Rattle.gates.specs.Near.{Near}
 use Rattle.contents.specs.Contents.{countOf, widthOf, entryOf}
 use Rattle.contents.proofs.Laws.Good.{good}
 use Rattle.body_read.specs.Body.{bodyFault, tableOf}
