@@ -1,3 +1,2 @@
-pub mod Run
-pub mod Number
 pub mod Amplitude
+pub mod Begin

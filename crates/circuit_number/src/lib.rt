@@ -1,0 +1,145 @@
+// The number that refuses a circuit, found without running it: 11, 6, 8, then gate by gate.
+ghost use mathlib.Core.Bool.{true};
+ghost use mathlib.Core.Path.{_≡_};
+ghost use Prim.Native.Nat.{_+_, _*_, _≤_};
+ghost use lib.ListN.{length};
+ghost use Rattle.gates.specs.Read.{gateRead};
+ghost use Rattle.gates.specs.Circuit.{numberOf, gateAt, gateCount, gatesNumber, circuitNumber};
+use gates::Reading;
+
+// Gate `j` of the bytes, read on so many wires.
+fn gate_at(gates: &[u8], j: usize, width: u8) -> Reading
+    requires { ⌜ 3 * j + 3 ≤ length (now gates) ⌝ }
+    ensures { λ r. ⌜ r ≡ gateAt width (now (gates .entry)) j ⌝ }
+{
+    gates::read(gates[3 * j], gates[3 * j + 1], gates[3 * j + 2], width)
+}
+
+// The number of a reading, 0 where it is a gate.
+fn number_of(g: Reading) -> u8
+    ensures { λ r. ⌜ r ≡ numberOf g ⌝ }
+{
+    match g {
+        Reading::Refused(n) => n,
+        Reading::Is(_) => 0,
+    }
+}
+
+// The number of the first gate that is refused, 0 where none is, gate by gate.
+fn first_refusal(gates: &[u8], width: u8) -> u8
+    ensures { λ r. ⌜ r ≡ gatesNumber width (now (gates .entry)) (gateCount (now (gates .entry))) ⌝ }
+{
+    let count = gates.len() / 3;
+    let mut j: usize = 0;
+    while j < count {
+        let n = number_of(gate_at(gates, j, width));
+        if n != 0 {
+            return n;
+        }
+        j += 1;
+    }
+    0
+}
+
+// 1 where the bytes are a gate on one wire of so many.
+fn one_fine(code: u8, first: u8, second: u8, width: u8) -> u32
+    ensures { λ r. ⌜ (r ≤ 1) × (r ≡ 1 → (code ≤ 7) × (numberOf (gateRead code first second width) ≡ 0)) ⌝ }
+{
+    if code < 1 {
+        return 0;
+    }
+    if 7 < code {
+        return 0;
+    }
+    if width <= first {
+        return 0;
+    }
+    if second != 0 {
+        return 0;
+    }
+    1
+}
+
+// 1 where the bytes are a gate on two wires of so many.
+fn two_fine(code: u8, first: u8, second: u8, width: u8) -> u32
+    ensures { λ r. ⌜ (r ≤ 1) × (r ≡ 1 → (16 ≤ code) × (numberOf (gateRead code first second width) ≡ 0)) ⌝ }
+{
+    if code < 16 {
+        return 0;
+    }
+    if 18 < code {
+        return 0;
+    }
+    if width <= first {
+        return 0;
+    }
+    if width <= second {
+        return 0;
+    }
+    if first == second {
+        return 0;
+    }
+    1
+}
+
+// 0 where gate `j` of the bytes is not refused, and else 1.
+fn refused_at(gates: &[u8], j: usize, width: u8) -> u32
+    requires { ⌜ 3 * j + 3 ≤ length (now gates) ⌝ }
+    ensures { λ r. ⌜ (r ≡ 0 → numberOf (gateAt width (now (gates .entry)) j) ≡ 0) ⌝ }
+{
+    let code = gates[3 * j];
+    let first = gates[3 * j + 1];
+    let second = gates[3 * j + 2];
+    let fine = one_fine(code, first, second, width) + two_fine(code, first, second, width);
+    1 - fine
+}
+
+// Whether no gate is refused, without a branch for each gate.
+fn all_fine(gates: &[u8], width: u8) -> bool
+    ensures { λ r. ⌜ (r ≡ true → gatesNumber width (now (gates .entry)) (gateCount (now (gates .entry))) ≡ 0) ⌝ }
+{
+    let count = gates.len() / 3;
+    let mut bad: u32 = 0;
+    let mut j: usize = 0;
+    while j < count {
+        bad = bad | refused_at(gates, j, width);
+        j += 1;
+    }
+    bad == 0
+}
+
+// The number of the first gate that is refused, 0 where none is.
+fn gates_number(gates: &[u8], width: u8) -> u8
+    ensures { λ r. ⌜ r ≡ gatesNumber width (now (gates .entry)) (gateCount (now (gates .entry))) ⌝ }
+{
+    if all_fine(gates, width) {
+        return 0;
+    }
+    first_refusal(gates, width)
+}
+
+// The number of a circuit: 11, 6, 8, gates in order.
+pub fn number(width: u8, input: u32, output: u32, gates: &[u8]) -> u8
+    ensures { λ r. ⌜ r ≡ circuitNumber width input output (now (gates .entry)) ⌝ }
+{
+    if gates.len() % 3 != 0 {
+        return exact::BAD_BODY;
+    }
+    if exact::MOST_GATES < gates.len() / 3 {
+        return exact::BAD_BODY;
+    }
+    if width < 1 {
+        return exact::BAD_WIRE;
+    }
+    if exact::MOST_WIRES < width {
+        return exact::BAD_WIRE;
+    }
+    let strings = 1u64 << width;
+    if strings <= input as u64 {
+        return exact::BAD_STRING;
+    }
+    if strings <= output as u64 {
+        return exact::BAD_STRING;
+    }
+    gates_number(gates, width)
+}
