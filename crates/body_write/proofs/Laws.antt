@@ -1,5 +1,3 @@
-pub mod Bytes
-pub mod Signed
 pub mod Body
 pub mod First
 pub mod Same

@@ -1,3 +1,2 @@
 pub mod Body
 pub mod Write
-pub mod Inner

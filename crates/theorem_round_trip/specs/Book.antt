@@ -8,7 +8,7 @@ use Rattle.fields.specs.Bytes.{over}
 use Rattle.contents_lay.specs.declared.Written.{Written}
 use Rattle.contents.specs.Contents.{countOf, kindOf, widthOf, lengthOf, contentsNumber}
 use Rattle.contents_lay.specs.Lay.{laidStart, laidBytes, Laid}
-use Rattle.body_write.specs.Body.{joined}
+use Rattle.body_fields.specs.Fields.{joined}
 use Rattle.book.specs.Book.{bodyBytes, circuitBodyNumber, TableNumber, BookNumber}
 
 -- "Contents first, then bodies", "in order without gaps"

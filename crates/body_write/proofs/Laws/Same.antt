@@ -17,7 +17,8 @@ use Rattle.state.specs.Normal.{Normal}
 use Rattle.state.proofs.Laws.First.{free-from, row-low, tie-low}
 use Rattle.body_pack.specs.Slot.{slotAt, packedMask}
 use Rattle.body_pack.specs.Packed.{packedTies, packedTable}
-use Rattle.body_write.specs.Body.{plainBytes, bodyBytes}
+use Rattle.body_fields.specs.Fields.{plainBytes}
+use Rattle.body_write.specs.Body.{bodyBytes}
 use Rattle.body_pack.proofs.Laws.Packed.{turnPacked, rowPacked, form-done}
 use Rattle.body_pack.proofs.Laws.Read.{mask-at, side-at, slot-beyond}
 use Rattle.body_write.proofs.Laws.First.{ones-first, slot-first, packed-first, body-first}

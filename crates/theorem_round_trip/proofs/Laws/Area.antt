@@ -11,7 +11,7 @@ use Rattle.fields.proofs.Laws.Over.{over-front}
 use Rattle.contents_lay.specs.declared.Written.{Written}
 use Rattle.contents_lay.specs.Lay.{laidStart, laidBytes, layNumber, laidAnswer}
 use Rattle.contents_lay.proofs.Laws.Laid.{length-laid, laid-area}
-use Rattle.body_write.specs.Body.{joined}
+use Rattle.body_fields.specs.Fields.{joined}
 use Rattle.theorem_round_trip.specs.Book.{laidBook, Fits, Holds, PutTogether}
 use Rattle.theorem_round_trip.proofs.Laws.Book.{starts, ends, laid-book}
 

@@ -14,7 +14,7 @@ use Rattle.contents_lay.specs.Lay.{laidStart, laidBytes, layNumber}
 use Rattle.contents_lay.proofs.Laws.Lay.{lay-lists}
 use Rattle.contents_lay.proofs.Laws.Laid.{length-laid}
 use Rattle.contents_lay.proofs.Laws.Round.{Round, round}
-use Rattle.body_write.specs.Body.{joined}
+use Rattle.body_fields.specs.Fields.{joined}
 use Rattle.book.specs.Book.{bodyBytes, circuitBodyNumber, TableNumber, BodyNumber}
 use Rattle.book.proofs.Laws.Number.{book-clear}
 use Rattle.theorem_round_trip.specs.Book.{laidBook, Fits, Holds}

@@ -8,7 +8,7 @@ use lib.ListN.{length, take, drop, length-append}
 use lib.Seq.{take-at, drop-at}
 use Rattle.exact.specs.Sum.{total}
 use Rattle.exact.proofs.Laws.Sum.{split}
-use Rattle.body_write.specs.Body.{joined}
+use Rattle.body_fields.specs.Fields.{joined}
 
 pub joined-length : (n : ℕ) (f : ℕ → List ℕ) → length (joined n f) ≡ total n (λ i. length (f i))
 unfolding joined total

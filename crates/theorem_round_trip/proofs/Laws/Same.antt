@@ -14,7 +14,8 @@ use Rattle.fields.specs.Bytes.{byteAt, le, number, over}
 use Rattle.fields.proofs.Laws.Number.{number-lt, le-number}
 use Rattle.state.specs.Normal.{Normal}
 use Rattle.body_write.specs.declared.Written.{Written}
-use Rattle.body_write.specs.Body.{joined, mark, ofSigned16, headBytes, tieBytes, fieldBytes, plainBytes, bodyBytes}
+use Rattle.body_fields.specs.Fields.{joined, mark, ofSigned16, headBytes, tieBytes, fieldBytes, plainBytes}
+use Rattle.body_write.specs.Body.{bodyBytes}
 use Rattle.body_write.specs.Write.{BodyWritten}
 use Rattle.body_write.proofs.Laws.Body.{fields-ext}
 use Rattle.body_write.proofs.Laws.Same.{body-same}

@@ -9,10 +9,10 @@ use Rattle.fields.specs.Bytes.{front}
 use Rattle.fields.proofs.Laws.Front.{lent-part}
 use Rattle.ties.specs.declared.Tie.{Tie}
 use Rattle.ties.specs.Ties.{maskAt, sideAt}
-use Rattle.body_write.specs.Body.{joined, tieBytes}
-use Rattle.body_write.proofs.Laws.Bytes.{lent-none, lent-next, lent-done, length-tie}
-use Rattle.body_write.proofs.write_ties.Statement.{statement}
-use Rattle.body_write.proofs.write_ties.Tie as tie
+use Rattle.body_fields.specs.Fields.{joined, tieBytes}
+use Rattle.body_fields.proofs.Laws.Bytes.{lent-none, lent-next, lent-done, length-tie}
+use Rattle.body_fields.proofs.write_ties.Statement.{statement}
+use Rattle.body_fields.proofs.write_ties.Tie as tie
 
 abbrev Inv-loop : tie.InvT-loop
 Inv-loop part₀ t k j₀ part j = (j ≤ k) × (length part ≡ length part₀) × (part ≡ front part₀ (joined j (λ u. tieBytes (maskAt t u) (sideAt t u))))

@@ -8,11 +8,11 @@ use mir.Val.{toZ, ofZ}
 use Rattle.fields.specs.Bytes.{le, front}
 use Rattle.fields.proofs.Laws.Front.{lent-front}
 use Rattle.state.proofs.Laws.Scale.{in-range-fits}
-use Rattle.body_write.specs.Body.{mark, ofSigned16, headBytes}
-use Rattle.body_write.proofs.Laws.Bytes.{front-same}
+use Rattle.body_fields.specs.Fields.{mark, ofSigned16, headBytes}
+use Rattle.body_fields.proofs.Laws.Bytes.{front-same}
 use borrow.Author.Needs.{needs}
-use Rattle.body_write.proofs.write_head.Statement.{statement}
-use Rattle.body_write.proofs.write_head.Tie as tie
+use Rattle.body_fields.proofs.write_head.Statement.{statement}
+use Rattle.body_fields.proofs.write_head.Tie as tie
 
 mark-byte-requires : tie.Need-mark-byte-requires
 mark-byte-requires c κs = search needs

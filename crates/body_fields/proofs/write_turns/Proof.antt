@@ -9,10 +9,10 @@ use lib.ListN.{length, take, drop, length-drop}
 use Rattle.fields.specs.Bytes.{front}
 use Rattle.fields.proofs.Laws.Front.{lent-part}
 use Rattle.form.specs.Form.{turnAt}
-use Rattle.body_write.specs.Body.{joined}
-use Rattle.body_write.proofs.Laws.Bytes.{lent-none, lent-next, lent-done}
-use Rattle.body_write.proofs.write_turns.Statement.{statement}
-use Rattle.body_write.proofs.write_turns.Tie as tie
+use Rattle.body_fields.specs.Fields.{joined}
+use Rattle.body_fields.proofs.Laws.Bytes.{lent-none, lent-next, lent-done}
+use Rattle.body_fields.proofs.write_turns.Statement.{statement}
+use Rattle.body_fields.proofs.write_turns.Tie as tie
 
 abbrev Inv-loop : tie.InvT-loop
 Inv-loop part₀ f n i₀ part i = (i ≤ n) × (length part ≡ length part₀) × (part ≡ front part₀ (joined i (λ v. turnAt f v ∷ [])))

@@ -8,7 +8,7 @@ use lib.IntN.{ℤ, pos, negsuc, _+ℤ_}
 use mir.Syntax.{w32}
 use mir.Val.{SFits}
 use Rattle.state.specs.Normal.{InRange}
-use Rattle.body_write.specs.Body.{ofSigned16}
+use Rattle.body_fields.specs.Fields.{ofSigned16}
 
 -- 65,536 more
 pub raised : ℤ → ℕ

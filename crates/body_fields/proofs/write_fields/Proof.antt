@@ -7,11 +7,11 @@ use Rattle.fields.specs.Bytes.{le}
 use Rattle.fields.proofs.Laws.Front.{lent-front}
 use Rattle.form.specs.Form.{turnAt, rowAt}
 use Rattle.ties.specs.Ties.{maskAt, sideAt}
-use Rattle.body_write.specs.Body.{joined, tieBytes, fieldBytes, plainBytes}
-use Rattle.body_write.proofs.Laws.Bytes.{toTurns, toRows, toCount, toTies, length-turns, length-rows, length-count, length-ties}
+use Rattle.body_fields.specs.Fields.{joined, tieBytes, fieldBytes, plainBytes}
+use Rattle.body_fields.proofs.Laws.Bytes.{toTurns, toRows, toCount, toTies, length-turns, length-rows, length-count, length-ties}
 use borrow.Author.Needs.{needs}
-use Rattle.body_write.proofs.write_fields.Statement.{statement}
-use Rattle.body_write.proofs.write_fields.Tie as tie
+use Rattle.body_fields.proofs.write_fields.Statement.{statement}
+use Rattle.body_fields.proofs.write_fields.Tie as tie
 
 write-head-requires : tie.Need-write-head-requires
 write-head-requires c κs = search needs

@@ -2,10 +2,10 @@
 use mathlib.Core.List.{[], _∷_}
 use Rattle.fields.specs.Bytes.{le}
 use Rattle.fields.proofs.Laws.Front.{length-le, lent-front}
-use Rattle.body_write.specs.Body.{tieBytes}
+use Rattle.body_fields.specs.Fields.{tieBytes}
 use borrow.Author.Needs.{needs}
-use Rattle.body_write.proofs.write_tie.Statement.{statement}
-use Rattle.body_write.proofs.write_tie.Tie as tie
+use Rattle.body_fields.proofs.write_tie.Statement.{statement}
+use Rattle.body_fields.proofs.write_tie.Tie as tie
 
 write-u64-requires : tie.Need-write-u64-requires
 write-u64-requires c κs = search needs

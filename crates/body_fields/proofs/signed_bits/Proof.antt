@@ -8,10 +8,10 @@ use lib.Signed.{nonNeg}
 use mir.Facts.{toZ-ofZ}
 use mir.Syntax.{w32}
 use mir.Val.{SFits, Fits, toZ, ofZ}
-use Rattle.body_write.proofs.Laws.Signed.{raised, raised-is, raised-lt, raised-fits, raised-rest}
+use Rattle.body_fields.proofs.Laws.Signed.{raised, raised-is, raised-lt, raised-fits, raised-rest}
 use borrow.Author.Needs.{needs}
-use Rattle.body_write.proofs.signed_bits.Statement.{statement}
-use Rattle.body_write.proofs.signed_bits.Tie as tie
+use Rattle.body_fields.proofs.signed_bits.Statement.{statement}
+use Rattle.body_fields.proofs.signed_bits.Tie as tie
 
 -- the power as the word reads it
 same : (c : tie.Start) → toZ w32 (ofZ w32 (c .args .s)) ≡ c .args .s
