@@ -249,6 +249,7 @@ def spoilt_calls(draw, i, fault):
     t = tables[i]
     if fault > 13 and (t.count() < 2 or t.free() == 64):
         fault = 1
+    tried.add(fault)
     spoil(i, fault)
     for name in CALLS:
         called(SPOILT, i, of_kind(name, draw, t))
@@ -279,6 +280,7 @@ def based(i, base):
 LIMITS = [6, 6, 10, 6, 4, 10, 10, 6]
 BASES = [0, 2**58 - 1, WORD ^ sum(1 << v for v in range(0, 64, 7)), 0, 0, 2**54 - 1, 0, WORD ^ 63]
 FAULTS = 25
+tried = set()
 
 
 def begun(side, kind):
@@ -375,6 +377,7 @@ def plans():
 
 filled()
 histories()
+assert tried == set(range(1, FAULTS + 1))
 plans()
 if sys.argv[1:] == ["stdin"]:
     sys.stdout.buffer.write(b"".join(records))
