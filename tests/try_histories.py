@@ -1,190 +1,110 @@
 #!/usr/bin/env python3
-"""What the program try_histories must print, computed with whole numbers only.
+"""The calls of the program try_histories, and what it must print, computed with whole numbers only.
 
+    tests/try_histories.py stdin > crates/try_histories/stdin
     tests/try_histories.py > crates/try_histories/stdout
 
-The same pseudo-random calls, on a plain model alone: a table is a value for each assignment of its live bits, and a value is
-four whole numbers, the coefficients of 1, ω, ω², ω³, times a power of √2. A call's number is told in the order 12, 3, 1, 2, 4, 5.
-There is no form, no tie and no reduction here.
+Pseudo-random calls, refused ones included, on a plain model alone (tests/plain/tables.py): a table is a value for each assignment
+of its live bits, and a value is four whole numbers times a power of √2. Nothing here is taken from the library or from a run of it.
 """
 
+import struct
 import sys
 from pathlib import Path
 
 sys.dont_write_bytecode = True
-sys.path.insert(0, str(Path(__file__).resolve().parent / "drawn"))
+sys.path[:0] = [str(Path(__file__).resolve().parent / part) for part in ("drawn", "plain")]
 
+from tables import Table, answer, bits, mask_of
 from words import WORD, word
 
-HISTORIES, CALLS = 24, 100  # the program's
-ONE, NOTHING = (1, 0, 0, 0), (0, 0, 0, 0)
-NAMES = ["new_bit", "quarter", "sign", "scale", "tie", "sum", "fix", "join", "entry", "spread"]
-NUMBERS = [0, 12, 3, 1, 2, 4, 5]
-counts = {name: dict.fromkeys(NUMBERS, 0) for name in NAMES}
-totals = {"histories": 0, "entries": 0, "zero entries": 0, "spreads added up": 0}
+CALLS = ["new_bit", "quarter", "sign", "scale", "tie", "sum", "fix", "join"]
+ENTRY, COPY, LOOK = 8, 9, 10
+ZERO, POWER, LIVE, PHASE, TURN, ROW, COUNT, TIE = range(11, 19)
+FIRST, SECOND, BASE, BESIDE, SPOILT, FULL, FRESH = 0, 1, 2, 3, 4, 6, 7  # what the eight tables are used for
+
+records, lines = [], []
+tables, looks = [Table() for _ in range(8)], [0] * 8
 
 
-def bits(mask):
-    return [v for v in range(64) if mask >> v & 1]
+# Records, with the model beside them
 
 
-def mask_of(slots):
-    return sum(1 << v for v in slots)
+def record(code, i, j=0, small=0, place=0, number=0):
+    records.append(struct.pack("<BBBBQ", code, i + 8 * j, small, place, number & WORD))
 
 
-# Values
+def copied(i, j):
+    """Table i becomes what table j is."""
+    record(COPY, i, j)
+    tables[i], looks[i] = tables[j].copy(), looks[j]
 
 
-def plus(x, y):
-    return tuple(map(int.__add__, x, y))
+def looked_at(i, after):
+    """The slots with values of their own are looked at, all others stand by themselves."""
+    if not after.spoilt and looks[i] & after.live() != mask_of(after.slots):
+        looks[i] = WORD ^ mask_of(after.base)
+        record(LOOK, i, number=looks[i])
 
 
-def turned(x, p):
-    """Times ω^p: ω⁴ = −1."""
-    for _ in range(p % 8):
-        x = (-x[3], x[0], x[1], x[2])
-    return x
-
-
-def times(x, y):
-    z = NOTHING
-    for p, c in enumerate(y):
-        z = plus(z, tuple(c * a for a in turned(x, p)))
-    return z
-
-
-def root(x):
-    """Times √2 = ω + ω⁷."""
-    return plus(turned(x, 1), turned(x, 7))
-
-
-class Table:
-    """The values of every assignment of some slots, times √2^power; other live slots stand by themselves, with so many quarter turns."""
-
-    def __init__(self, base):
-        self.places = [64] * 10  # the slots, in the order in which they are drawn
-        self.base = {v: v % 4 for v in bits(base)}
-        self.values = {0: ONE}
-        self.power = 0
-
-    def copy(self):
-        other = Table(0)
-        other.places, other.base = list(self.places), dict(self.base)
-        other.values, other.power = self.values, self.power
-        return other
-
-    def slots(self):
-        return [v for v in self.places if v < 64]
-
-    def live(self):
-        return mask_of(self.slots()) | mask_of(self.base)
-
-    def has(self, v):
-        return v < 64 and self.live() >> v & 1 == 1
-
-    def free(self):
-        return next((v for v in range(64) if not self.has(v)), 64)
-
-    def zero(self):
-        return all(v == NOTHING for v in self.values.values())
-
-    def settle(self):
-        """The common factors √2 taken out; what is left of a value is ω^p or zero, so the program's words never wrap."""
-        if self.zero():
-            self.power = 0
-            return
-        while True:
-            doubled = {x: root(v) for x, v in self.values.items()}
-            if any(c % 2 for v in doubled.values() for c in v):
-                break
-            self.values = {x: tuple(c // 2 for c in v) for x, v in doubled.items()}
-            self.power += 1
-        assert all(sum(map(abs, v)) == 1 for v in self.values.values() if v != NOTHING)
-
-    def open(self, v):
-        if 64 in self.places:
-            self.places[self.places.index(64)] = v
-        self.values = self.values | {x | 1 << v: a for x, a in self.values.items()}
-
-    def close(self, v):
-        self.places[self.places.index(v)] = 64
-
-
-# What a call makes of a table, and its number
-
-
-def after(call, table, other):
-    """The table after a call that nothing refuses."""
-    t, (name, *given) = table.copy(), call
-    if name == "new_bit":
-        t.open(t.free())
-    elif name == "quarter":
-        v, k = given
-        t.values = {x: turned(a, 2 * k if x >> v & 1 else 0) for x, a in t.values.items()}
-    elif name == "sign":
-        u, v = given
-        t.values = {x: turned(a, 4 * (x >> u & x >> v & 1)) for x, a in t.values.items()}
-    elif name == "scale":
-        m, p = given
-        t.values, t.power = {x: turned(a, p) for x, a in t.values.items()}, t.power + m
-    elif name == "tie":
-        mask, r = given
-        t.values = {x: a if bin(x & mask).count("1") % 2 == r else NOTHING for x, a in t.values.items()}
-    elif name == "sum":
-        (v,) = given
-        t.values = {x: plus(a, t.values[x | 1 << v]) for x, a in t.values.items() if not x >> v & 1}
-        t.close(v)
-    elif name == "fix":
-        v, r = given
-        t.values = {x: t.values[x | r << v] for x in t.values if not x >> v & 1}
-        t.close(v)
-    else:
-        place = {}
-        for v in bits(other.live()):
-            place[v] = t.free()
-            if v in other.base:
-                t.base[place[v]] = other.base[v]
-            else:
-                t.places[t.places.index(64)] = place[v]
-        moved = {mask_of(place[v] for v in bits(x)): a for x, a in other.values.items()}
-        t.values = {x | y: times(a, b) for x, a in table.values.items() for y, b in moved.items()}
-        t.power += other.power
-    t.settle()
-    return t
-
-
-def number(call, t, other):
-    """The first of the tests 3, 1, 2 and 4 that fails, or 0."""
+def called(i, j, call):
+    """A call on table i, a join with table j, and its line."""
+    before = tables[i]
+    n, after, slot, places = answer(call, before, tables[j])
+    looked_at(i, after)
     name, *given = call
-    dead = lambda *slots: 0 if all(map(t.has, slots)) else 1
-    if name == "new_bit":
-        return 4 if len(bits(t.live())) == 64 else 0
-    if name == "quarter":
-        return 3 if given[1] > 3 else dead(given[0])
+    small, place, number = 0, 0, 0
     if name == "sign":
-        return dead(*given) or (2 if given[0] == given[1] else 0)
-    if name == "scale":
-        return 3 if given[1] > 7 else 0
-    if name == "tie":
-        return 3 if given[1] > 1 else 1 if given[0] & ~t.live() else 0
-    if name == "sum":
-        return dead(*given)
-    if name == "fix":
-        return 3 if given[1] > 1 else dead(given[0])
-    return 4 if len(bits(t.live())) + len(bits(other.live())) > 64 else 0
+        number, place = given
+    elif name == "scale" or name == "tie" or name == "quarter" or name == "fix":
+        number, small = given
+    elif name == "sum":
+        (number,) = given
+    record(CALLS.index(name), i, j, small, place, number)
+    tables[i] = after
+    spread = 0 if after.spoilt else after.spread()
+    kept, tidy = (1, 0) if after.spoilt else (int(after.same(before)), 1)
+    h = word(12 if after.spoilt else 0, after.live())
+    for v in places:
+        h = word(h, v)
+    lines.append(f"{n} {slot} {spread} {kept} {tidy} {entries(h, after, looks[i], len(records) - 1) % 2**32:08x}")
 
 
-def made(call, t, other, spoilt):
-    """A call counted by its number, and the table that it leaves."""
-    n = 12 if spoilt else number(call, t, other)
-    r = t if n else after(call, t, other)
-    if n == 0 and not r.zero() and abs(r.power) > 2000:
-        n, r = 5, t
-    counts[call[0]][n] += 1
-    return r
+def asked(i, x):
+    """The entry of table i at x, and its line."""
+    record(ENTRY, i, number=x)
+    t = tables[i]
+    if t.spoilt or x & ~t.live():
+        h = word(0, 12 if t.spoilt else 1)
+    else:
+        h = amount(amount(0, t.entry(x)), t.entry(x))
+    lines.append(f"{h % 2**32:08x}")
 
 
-# The draws of the program
+# Digests, as the program has them
+
+
+def amount(h, a):
+    return word(h, 1 << 63) if a is None else word(word(h, abs(a[0])), a[1] ^ (WORD if a[0] < 0 else 0))
+
+
+def entries(h, t, look, n):
+    """Every value of the bits that are looked at, in rising order, beside drawn values of the others."""
+    live = t.live()
+    seen, rest, x = live & look, live & ~look, 0
+    for q in range(1024):
+        if t.spoilt:
+            h = word(h, 12)
+        else:
+            a = t.entry(x | rest & word(n, q) if rest else x)
+            h = amount(amount(h, a), a)
+        x = x - seen & seen
+        if x == 0:
+            break
+    return h
+
+
+# Draws, from the models alone
 
 
 def drawing(stream, call):
@@ -192,23 +112,25 @@ def drawing(stream, call):
 
 
 def small(w, n):
+    """A number below n, and now and then one from there to 255."""
     a = w // 64 % 256
     return a % n if w % 64 < 60 else 255 if a < n else a
 
 
 def slot(w, t):
+    """A slot: 64 or more, the lowest free one, or mostly one with values."""
     r = w // 32
     if w % 32 == 0:
         return 64 + r % 64
     if w % 32 == 1:
         return r
-    if w % 32 == 2:
+    if w % 32 == 2 or not t.slots:
         return t.free()
-    slots = t.slots()
-    return slots[r % len(slots)] if slots else t.free()
+    return t.slots[r % len(t.slots)]
 
 
 def power(w, e):
+    """A power: to about 2,000 or −2,000 from the power e, extreme, back to 0, or small."""
     r = w // 16
     if w % 16 <= 1:
         return 1998 + r % 5 - e
@@ -219,137 +141,245 @@ def power(w, e):
     return -e if w % 16 <= 7 else r % 7 - 3
 
 
-def spread(t, q):
-    return mask_of(v for i, v in enumerate(t.places) if v < 64 and q >> i & 1)
+def chosen(t, q):
+    """The slots with values that q has a bit for."""
+    return mask_of(v for i, v in enumerate(t.slots) if q >> i & 1)
 
 
 def mask(draw, t):
+    """A mask of slots with values, every second time a thin one; now and then with a free slot, or with any but the base."""
     w = draw(2)
-    x = spread(t, w // 2 & (WORD if w % 2 == 0 else draw(3)))
+    x = chosen(t, w // 2 & (WORD if w % 2 == 0 else draw(3)))
     kind = draw(4) % 16
     if kind == 0:
         return (x | 1 << t.free()) & WORD
     return x | draw(5) & ~mask_of(t.base) if kind == 1 else x
 
 
-def drawn(draw, t, other, limit):
-    used = len(t.slots())
-    kind = 0 if used < 3 and draw(7) % 2 == 0 else draw(1) % 32
-    both = len(bits(t.live())) + len(bits(other.live()))
-    if kind <= 9 and (len(bits(t.live())) == 64 or used < limit):
-        return ("new_bit",)
-    if kind >= 30 and (both > 64 or used + len(other.slots()) <= 10):
-        return ("join",)
-    if 10 <= kind <= 13:
-        return ("quarter", slot(draw(2), t), small(draw(3), 4))
-    if 14 <= kind <= 19:
-        return ("sign", slot(draw(2), t), slot(draw(3), t))
-    if 20 <= kind <= 21:
-        return ("scale", power(draw(2), t.power), small(draw(3), 8))
-    if 22 <= kind <= 24:
-        return ("tie", mask(draw, t), small(draw(6), 2))
-    if 28 <= kind <= 29:
-        return ("fix", slot(draw(2), t), small(draw(3), 2))
-    return ("sum", slot(draw(2), t))
-
-
-def ask_entry(draw, t, spoilt):
+def assignment(draw, t):
+    """An assignment of live bits; every third time with the lowest free slot, or any at all."""
     w = draw(10)
-    x = spread(t, w) | w & mask_of(t.base)
-    kind = draw(11) % 16
-    if kind == 0:
-        x |= 1 << t.free() & WORD
-    elif kind == 1:
-        x = w
-    counts["entry"][12 if spoilt else 1 if x & ~t.live() else 0] += 1
+    x = chosen(t, w) | w & mask_of(t.base)
+    kind = draw(11) % 6
+    return (x | 1 << t.free()) & WORD if kind == 0 else w if kind == 1 else x
 
 
-def hold(t):
-    """Every entry at the slots that do not stand by themselves, and the spread."""
-    some = sum(v != NOTHING for v in t.values.values())
-    totals["entries"] += len(t.values)
-    totals["zero entries"] += len(t.values) - some
-    counts["spread"][0] += 1
-    if some == 0:
-        totals["spreads added up"] += len(bits(t.live()))
+def of_kind(name, draw, t):
+    """A call by its name, with what it is given."""
+    if name == "quarter":
+        return (name, slot(draw(2), t), small(draw(3), 4))
+    if name == "sign":
+        return (name, slot(draw(2), t), min(255, slot(draw(3), t)))
+    if name == "scale":
+        return (name, power(draw(2), t.power), small(draw(3), 8))
+    if name == "tie":
+        return (name, mask(draw, t), small(draw(6), 2))
+    if name == "sum":
+        return (name, slot(draw(2), t))
+    if name == "fix":
+        return (name, slot(draw(2), t), small(draw(3), 2))
+    return (name,)
+
+
+def drawn(draw, t, other, limit):
+    """A call on t: one that would need more than ten slots with values becomes a sum."""
+    used = len(t.slots)
+    kind = 0 if used < 3 and draw(7) % 2 == 0 else draw(1) % 32
+    if kind <= 9 and (t.count() == 64 or used < limit):
+        return ("new_bit",)
+    if kind >= 30 and (t.count() + other.count() > 64 or used + len(other.slots) <= 10):
+        return ("join",)
+    for top, name in [(9, "sum"), (13, "quarter"), (19, "sign"), (21, "scale"), (24, "tie"), (27, "sum"), (29, "fix"), (31, "sum")]:
+        if kind <= top:
+            return of_kind(name, draw, t)
+
+
+# Spoilt tables: each way of not being normal, by a single fault
+
+
+def fault_of_field(fault, v, t):
+    """A fault in a field of the table as it is: out of range, not symmetric, or a place that must hold nothing."""
+    ties = 0 if t.zero() else t.count() - t.spread()
+    return {
+        1: (POWER, 0, 0, 2001), 2: (POWER, 0, 0, -2001), 3: (POWER, 0, 0, -(2**31)), 4: (PHASE, 8, 0, 0), 5: (TURN, 4, v, 0),
+        6: (ROW, 0, v, 1 << v), 7: (ROW, 0, v, 1 << (v + 1) % 64), 8: (TIE, 0, 63, 1), 9: (TIE, 1, 63, 0), 10: (COUNT, 0, 0, ties + 1),
+        11: (COUNT, 0, 0, 65),
+    }[fault]
+
+
+def fault_of_shape(fault, u, v, w):
+    """What is put into a table of the same live slots and nothing else: u and v are live, u below v, and w is free."""
+    a, b, c = 1 << u, 1 << v, 1 << w
+    return {
+        12: [(ZERO, 1, 0, 0), (POWER, 0, 0, 1)],
+        13: [(ZERO, 1, 0, 0), (PHASE, 1, 0, 0)],
+        14: [(TURN, 1, w, 0)],
+        15: [(ROW, 0, w, a), (ROW, 0, u, c)],
+        16: [(COUNT, 0, 0, 1), (TIE, 0, 0, c)],
+        17: [(COUNT, 0, 0, 1), (TIE, 0, 0, a | b), (TURN, 1, u, 0)],
+        18: [(COUNT, 0, 0, 1), (TIE, 0, 0, a), (ROW, 0, v, a), (ROW, 0, u, b)],
+        19: [(COUNT, 0, 0, 2), (TIE, 0, 0, b), (TIE, 0, 1, a)],
+        20: [(COUNT, 0, 0, 2), (TIE, 0, 0, a), (TIE, 0, 1, a | b)],
+        21: [(COUNT, 0, 0, 2), (TIE, 0, 0, a | b), (TIE, 0, 1, b)],
+        22: [(COUNT, 0, 0, 1), (TIE, 2, 0, a)],
+        23: [(ZERO, 1, 0, 0), (TURN, 1, u, 0)],
+        24: [(ZERO, 1, 0, 0), (ROW, 0, v, a), (ROW, 0, u, b)],
+        25: [(ZERO, 1, 0, 0), (COUNT, 0, 0, 1), (TIE, 1, 0, a)],
+    }[fault]
+
+
+def spoil(i, fault):
+    """Table SPOILT becomes table i with a fault."""
+    t = tables[i]
+    u, v = (bits(t.live()) + [0, 0])[:2]
+    if fault <= 11:
+        copied(SPOILT, i)
+        faults = [fault_of_field(fault, v, t)]
     else:
-        assert some & some - 1 == 0
-        totals["spreads added up"] += len(t.base) + some.bit_length() - 1
+        copied(SPOILT, FRESH)
+        faults = [(LIVE, 0, 0, t.live())] + fault_of_shape(fault, u, v, t.free())
+    tables[SPOILT] = t.copy()
+    tables[SPOILT].spoilt = True
+    for code, small_number, place, number in faults:
+        record(code, SPOILT, 0, small_number, place, number)
 
 
-def called(draw, call, t, other, spoilt, first):
-    """A call on t, with what is asked before and held after; whether a table is spoilt, and whether that is t."""
-    ask_entry(draw, t, first)
-    if first:
-        counts["spread"][12] += 1
-    t = made(call, t, other, spoilt)
-    hold(t)
-    return t
+def spoilt_calls(draw, i, fault):
+    """Every call on table i with a fault, and a join of table i with it."""
+    t = tables[i]
+    if fault > 13 and (t.count() < 2 or t.free() == 64):
+        fault = 1
+    tried.add(fault)
+    spoil(i, fault)
+    for name in CALLS:
+        called(SPOILT, i, of_kind(name, draw, t))
+    called(i, SPOILT, ("join",))
+    asked(SPOILT, assignment(draw, t))
 
 
-def step(draw, t, other, limit):
-    call = drawn(draw, t, other, limit)
-    spoilt = draw(8) % 16 == 0
-    return called(draw, call, t, other, spoilt, spoilt and not (call[0] == "join" and draw(9) % 2 == 1))
+# Histories
 
 
-def begun(base):
-    totals["histories"] += 1
-    if base:
-        counts["new_bit"][0] += 64
-        counts["new_bit"][4] += 1
-        counts["quarter"][0] += len(bits(base))
-        counts["fix"][0] += 64 - len(bits(base))
-    return Table(base)
+def filled():
+    """Table FULL gets all 64 slots, and is refused one more."""
+    tables[FULL].basing = True
+    for _ in range(65):
+        called(FULL, FRESH, ("new_bit",))
+
+
+def based(i, base):
+    """Table i gets the slots of a base, turned; the others are fixed."""
+    copied(i, FULL)
+    for v in range(64):
+        if not base >> v & 1:
+            called(i, FRESH, ("fix", v, v % 2))
+        elif v % 4:
+            called(i, FRESH, ("quarter", v, v % 4))
 
 
 LIMITS = [6, 6, 10, 6, 4, 10, 10, 6]
-NEAR = [-2000, -1999, -1, 0, 1, 1998, 1999, 2000]
-FAR = NEAR + [-(2**31), -4001, -4000, 4000, 4001, 2**31 - 1]
 BASES = [0, 2**58 - 1, WORD ^ sum(1 << v for v in range(0, 64, 7)), 0, 0, 2**54 - 1, 0, WORD ^ 63]
+FAULTS = 25
+tried = set()
+
+
+def begun(side, kind):
+    """A table of a history: fresh, or with the slots of a base."""
+    has_base = kind == 3 if side == SECOND else BASES[kind] != 0
+    copied(side, BASE if has_base else FRESH)
 
 
 def history(stream):
+    """A hundred calls, one of four on the second table, some with a question before; now and then all calls on a spoilt table."""
     kind = stream % 8
-    bases = [BASES[kind], 2**40 - 1 if kind == 3 else 0]
-    tables = [begun(base) for base in bases]
-    for call in range(CALLS):
-        draw = drawing(stream, call)
-        side = 1 if draw(0) % 4 == 0 else 0
+    for side in (FIRST, SECOND):
+        begun(side, kind)
+    for c in range(100):
+        draw = drawing(stream, c)
+        side = SECOND if draw(0) % 4 == 0 else FIRST
         if draw(13) % 4 == 0 and tables[side].zero():
-            tables[side] = begun(bases[side])
-        tables[side] = step(draw, tables[side], tables[1 - side], [LIMITS[kind], 4][side])
+            begun(side, kind)
+        if c % 8 == 3:
+            asked(side, assignment(draw, tables[side]))
+        called(side, 1 - side, drawn(draw, tables[side], tables[1 - side], [LIMITS[kind], 4][side]))
+        if c % 33 == 32:
+            spoilt_calls(draw, side, 1 + (3 * stream + c // 33) % FAULTS)
+
+
+def histories():
+    for kind in range(8):
+        if kind == 3 or BASES[kind]:
+            based(BASE, BASES[kind] or 2**40 - 1)
+        for stream in range(kind, 24, 8):
+            history(stream)
 
 
 # The limits in calls by plan
 
 
-def planned(i, j):
-    v = 61 if i % 2 == 0 else 40
-    plan = {0: ("scale", NEAR[i // 14], 0), 1: ("scale", FAR[i % 14], 1), 2: ("join",), 7: ("quarter", v, i % 4), 8: ("sum", v),
-            10: ("tie", 0, 1), 11: ("scale", FAR[i % 14], 1), 12: ("join",)}
-    return plan.get(j, ("new_bit",))
+NEAR = [-2000, -1999, -1, 0, 1, 1998, 1999, 2000]
+FAR = NEAR + [-(2**31), -4001, -4000, 4000, 4001, 2**31 - 1]
 
 
-def plan(i):
-    base = 2**61 - 1 if i % 2 == 0 else 2**40 - 1
-    other = begun(0 if i % 2 == 0 else base)
-    other = called(drawing(i, 14), ("scale", NEAR[i % 14 % 8], 0), other, other, False, False)
-    t = begun(base)
-    for j in range(14):
-        t = called(drawing(i, j), planned(i, j), t, other, False, False)
+def do(i, j, *calls):
+    for call in calls:
+        called(i, j, call)
 
 
-for stream in range(HISTORIES):
-    history(stream)
-for i in range(112):
-    plan(i)
-print("call accepted", *NUMBERS[1:])
-for name in NAMES:
-    print(name, *counts[name].values())
-for name, n in totals.items():
-    print(name, n)
-for name in ("numbers that differed", "tables changed by a refused call", "places that differed", "tables not normal",
-             "tables with a freed slot", "tables with a shared lead", "spreads that differed", "entries that differed"):
-    print(name, 0)
-print("all agreed")
+def powers(b):
+    """Each near power scaled by a far one, joined with a power of its own, and summed with any turn; then the zero table."""
+    base, v = [(BASE, 61), (BESIDE, 40)][b % 2]
+    copied(SECOND, FRESH if base == BASE else BESIDE)
+    do(SECOND, FRESH, ("scale", NEAR[b % 8], 0))
+    for a, near in enumerate(NEAR):
+        copied(FIRST, base)
+        do(FIRST, SECOND, ("scale", near, 0), ("scale", FAR[b], 1), ("join",))
+        do(FIRST, SECOND, ("new_bit",), ("quarter", v, (2 * a + b) % 4), ("sum", v))
+    do(FIRST, SECOND, ("tie", 0, 1), ("scale", FAR[b], 1), ("join",))
+
+
+def last_sums():
+    """A single bit with each turn, summed at the ends of the powers."""
+    for s in (-2000, 1997, 1998, 1999, 2000):
+        for k in range(4):
+            copied(FIRST, FRESH)
+            do(FIRST, FRESH, ("scale", s, 0), ("new_bit",), ("quarter", 0, k), ("sum", 0))
+
+
+def last_slots():
+    """64 live bits by new bits and by joins both ways, and one more refused; refusal 4 comes before 5."""
+    for more in (2, 3, 4):
+        copied(FIRST, BASE)
+        copied(SECOND, FRESH)
+        do(SECOND, FRESH, *[("new_bit",)] * more, ("quarter", 1, 1), ("sign", 0, 1), ("scale", 2000, 3))
+        do(FIRST, SECOND, ("join",), ("new_bit",), ("new_bit",), ("scale", 2000, 0), ("join",))
+        copied(FIRST, BASE)
+        do(SECOND, FIRST, ("join",), ("new_bit",), ("new_bit",))
+
+
+def orders():
+    """Calls with two faults: the first in the order 3, 1, 2, 4, 5 is told."""
+    copied(FIRST, FRESH)
+    do(FIRST, FRESH, ("new_bit",), ("new_bit",), ("scale", 2000, 0))
+    do(FIRST, FRESH, ("quarter", 2, 4), ("fix", 64, 2), ("tie", 4, 2), ("sign", 2, 2), ("sign", 1, 1), ("scale", 1, 8), ("tie", 0, 0))
+    do(FIRST, FRESH, ("sum", 2**64 - 1), ("sum", 0), ("quarter", 0, 1), ("sum", 0), ("quarter", 0, 1), ("sum", 0), ("tie", 3, 1))
+
+
+def plans():
+    based(BASE, 2**61 - 1)
+    based(BESIDE, 2**40 - 1)
+    for b in range(14):
+        powers(b)
+    last_sums()
+    last_slots()
+    orders()
+
+
+filled()
+histories()
+assert tried == set(range(1, FAULTS + 1))
+plans()
+if sys.argv[1:] == ["stdin"]:
+    sys.stdout.buffer.write(b"".join(records))
+else:
+    print("\n".join(lines))

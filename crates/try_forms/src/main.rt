@@ -1,96 +1,76 @@
-// Forms and ties compared, on pseudo-random inputs, with plain loops over the slots. A count follows from the bounds of the loops alone.
-mod forms;
-mod garbage;
-mod masks;
-mod plain;
-mod systems;
-mod tally;
+// Calls on a form and on ties, read from standard input, with any numbers. For each a line: a field, whether what comes out is proper or reduced, and a digest of what it
+// answers then. The script tests/try_forms.py writes the calls, and from plain sums what must be printed.
+mod on_form;
+mod on_ties;
+mod record;
 
-use forms::Move;
-use systems::Call;
-use tally::Tally;
+use form::Form;
+use record::Record;
+use ties::Ties;
 
-// How many forms there are: 20 of each of the 12 kinds of mask.
-const FORMS: u64 = 240;
+// More records than any input has.
+const MOST: u64 = 100000;
 
-// How many systems of ties: two of each number of ties, place of the bits and kind of tie put in, 7 · 3 · 4.
-const SYSTEMS: u64 = 168;
-
-// How many forms and ties that no table has: 8 with each slot.
-const GARBAGE: u64 = 32;
-
-// What is compared.
-enum Test {
-    Form(Move),
-    Reads(bool),
-    Ties(Call),
-    Searches(bool),
-    Garbage,
+// A number, and the space behind it.
+fn number(n: u64) {
+    io::print_decimal(1, n);
+    io::write_all(1, b" ");
 }
 
-// The comparisons of one stream.
-fn once(test: Test, stream: u64) -> Tally {
-    match test {
-        Test::Form(m) => forms::trial(m, stream),
-        Test::Reads(rows) => forms::read(rows, stream),
-        Test::Ties(c) => systems::trial(c, stream),
-        Test::Searches(any) => systems::search(any, stream),
-        Test::Garbage => garbage::calls(stream),
-    }
-}
-
-// The comparisons of the first `n` streams, and a line: the method, how many agreed, and how many differed.
-fn run(name: &[u8], test: Test, n: u64) -> Tally {
-    let mut t = Tally::none();
-    let mut stream: u64 = 0;
-    while stream < n {
-        t = t.plus(once(test, stream));
-        stream += 1;
-    }
-    io::write_all(1, name);
-    io::write_all(1, b" ");
-    io::print_decimal(1, t.agreed);
-    io::write_all(1, b" ");
-    io::print_decimal(1, t.differed);
+// A digest's lower half, and the end of the line.
+fn last(h: u64) {
+    io::print_hex(1, h % 4294967296, 8);
     io::write_all(1, b"\n");
-    t
 }
 
-// The methods of a form: 16 assignments of each form and the shape of what comes out, 240 · 17 = 4080; or its slots 0 to 67, 240 · 68 = 16320.
-fn run_forms() -> Tally {
-    Tally::none()
-        .plus(run(b"phase_at", Test::Form(Move::PhaseAt), FORMS))
-        .plus(run(b"add_phase", Test::Form(Move::AddPhase), FORMS))
-        .plus(run(b"turn_parity", Test::Form(Move::TurnParity), FORMS))
-        .plus(run(b"cross", Test::Form(Move::Cross), FORMS))
-        .plus(run(b"clear", Test::Form(Move::Clear), FORMS))
-        .plus(run(b"turn_replaced", Test::Form(Move::TurnReplaced), FORMS))
-        .plus(run(b"eliminate", Test::Form(Move::Eliminate), FORMS))
-        .plus(run(b"turn_at", Test::Reads(false), FORMS))
-        .plus(run(b"row_at", Test::Reads(true), FORMS))
+// The line of a form: its phase and phases, and unless it is brief its shape.
+fn show_form(f: Form, brief: u8, n: u64) {
+    let c = f.phase;
+    let h = on_form::phases(f, n);
+    number(c.0 as u64);
+    if brief == 1 {
+        last(h);
+        return;
+    }
+    number(on_form::proper(f));
+    last(on_form::slots(h, f));
 }
 
-// The methods of ties: 1024 assignments of each system and the shape of what comes out, 168 · 1025 = 172200; or the slots 0 to 67, 168 · 68 = 11424.
-fn run_ties() -> Tally {
-    Tally::none()
-        .plus(run(b"hold_at", Test::Ties(Call::HoldAt), SYSTEMS))
-        .plus(run(b"reduce", Test::Ties(Call::Reduce), SYSTEMS))
-        .plus(run(b"insert", Test::Ties(Call::Insert), SYSTEMS))
-        .plus(run(b"adjoin", Test::Ties(Call::Adjoin), SYSTEMS))
-        .plus(run(b"mix", Test::Ties(Call::Mix), SYSTEMS))
-        .plus(run(b"drop", Test::Ties(Call::Drop), SYSTEMS))
-        .plus(run(b"use_up", Test::Ties(Call::UseUp), SYSTEMS))
-        .plus(run(b"lead_index", Test::Searches(false), SYSTEMS))
-        .plus(run(b"last_with", Test::Searches(true), SYSTEMS))
+// The line of ties.
+fn show_ties(t: Ties, kind: u8) {
+    number(t.count as u64);
+    number(on_ties::reduced(t));
+    last(on_ties::places(on_ties::holds(t, kind), t));
 }
 
-// All, and 18 calls each on forms and ties that no table has, 32 · 18 = 576 that returned; at the end, how many comparisons differed.
+// The ties after a record, or the line of a tie that they reduce.
+fn ties_after(t: Ties, r: Record) -> Ties {
+    if r.code == 23 {
+        last(on_ties::reduce(t, r));
+        return t;
+    }
+    let after = on_ties::moved(t, r);
+    show_ties(after, r.small);
+    after
+}
+
+// Record after record, to the end of the input.
 fn main() {
-    io::write_all(1, b"method agreed differed\n");
-    let all = run_forms()
-        .plus(run_ties())
-        .plus(run(b"garbage", Test::Garbage, GARBAGE));
-    io::write_all(1, b"differences ");
-    io::print_decimal(1, all.differed);
-    io::write_all(1, b"\n");
+    let mut f = Form::blank();
+    let mut t = Ties::none();
+    let mut n: u64 = 0;
+    while n < MOST {
+        let mut bytes = [0u8; record::SIZE];
+        if io::read_full(0, &mut bytes) < record::SIZE {
+            return;
+        }
+        let r = record::read(&bytes);
+        if r.code < 16 {
+            f = on_form::moved(f, r);
+            show_form(f, r.brief, n);
+        } else {
+            t = ties_after(t, r);
+        }
+        n += 1;
+    }
 }

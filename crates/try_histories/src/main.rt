@@ -1,121 +1,121 @@
-// Histories of pseudo-random calls on tables, refused ones included, with every entry held to a plain model after every call. The expected numbers are those of tests/histories.py.
-mod begin;
+// Calls read from standard input and made on eight tables. For each a line: the number of refusal, the slot of a new bit, the spread, whether the fields are what they were, whether the
+// table is normal and without stray bits, and a digest of the rest. The script tests/try_histories.py writes the calls, and from plain sums over bit values what must be printed.
 mod call;
-mod change;
-mod counts;
-mod expected;
-mod history;
-mod hold;
-mod joining;
-mod model;
-mod plain;
-mod reply;
-mod same;
-mod script;
-mod settle;
-mod spoil;
-mod step;
-mod store;
-mod tidy;
-mod value;
-mod whole;
+mod digest;
+mod put;
+mod record;
 
-// How many histories: so many of each of the eight kinds.
-const HISTORIES: u64 = 24;
+use call::Reply;
+use record::Record;
+use table::Table;
 
-// A number, with a space before it.
-fn number(n: u64) {
-    io::write_all(1, b" ");
+// More records than any input has.
+const MOST: u64 = 100000;
+
+// A table, and which of its live bits take all values where its entries are asked.
+struct Seat {
+    table: Table,
+    look: u64,
+}
+
+// 0 for a table that is not normal, 1 for one that is and has no stray bits; 2 for one that has some all the same.
+fn tidy(t: Table) -> u64 {
+    let s = t.state;
+    if !t.normal() {
+        return 0;
+    }
+    if digest::stray(s) == 0 { 1 } else { 2 }
+}
+
+// A number, and a space or what else is to follow.
+fn number(n: u64, then: &[u8]) {
     io::print_decimal(1, n);
+    io::write_all(1, then);
 }
 
-// The line of a call: accepted, then refused by 12, 3, 1, 2, 4 and 5.
-fn show(name: &[u8], all: &[u64], row: usize) {
-    let i = 8 * (row % 10);
-    io::write_all(1, name);
-    number(counts::at(all, i));
-    number(counts::at(all, i + 1));
-    number(counts::at(all, i + 2));
-    number(counts::at(all, i + 3));
-    number(counts::at(all, i + 4));
-    number(counts::at(all, i + 5));
-    number(counts::at(all, i + 6));
+// A digest's lower half, and the end of the line.
+fn last(h: u64) {
+    io::print_hex(1, h % 4294967296, 8);
     io::write_all(1, b"\n");
 }
 
-// A line of one number.
-fn show_one(name: &[u8], n: u64) {
-    io::write_all(1, name);
-    number(n);
-    io::write_all(1, b"\n");
-}
-
-// The lines of the calls.
-fn show_calls(all: &[u64]) {
-    io::write_all(1, b"call accepted 12 3 1 2 4 5\n");
-    show(b"new_bit", all, counts::NEW_BIT);
-    show(b"quarter", all, counts::QUARTER);
-    show(b"sign", all, counts::SIGN);
-    show(b"scale", all, counts::SCALE);
-    show(b"tie", all, counts::TIE);
-    show(b"sum", all, counts::SUM);
-    show(b"fix", all, counts::FIX);
-    show(b"join", all, counts::JOIN);
-    show(b"entry", all, counts::ENTRY);
-    show(b"spread", all, counts::SPREAD);
-}
-
-// The lines of what was compared.
-fn show_totals(all: &[u64]) {
-    show_one(b"histories", counts::at(all, counts::HISTORIES));
-    show_one(b"entries", counts::at(all, counts::ENTRIES));
-    show_one(b"zero entries", counts::at(all, counts::ZEROS));
-    show_one(b"spreads added up", counts::at(all, counts::SPREADS));
-}
-
-// The lines of what differed.
-fn show_differences(all: &[u64]) {
-    show_one(b"numbers that differed", counts::at(all, counts::NUMBERS));
-    show_one(
-        b"tables changed by a refused call",
-        counts::at(all, counts::KEPT),
+// The line of a call on the table of a seat.
+fn show(a: Seat, c: Reply, n: u64) {
+    let before = a.table;
+    let t = c.table;
+    let s = before.state;
+    let after = t.state;
+    let places = c.places;
+    let spread = t.spread();
+    number(c.refusal as u64, b" ");
+    number(c.slot as u64, b" ");
+    number(spread.spread as u64, b" ");
+    number(
+        if digest::fields(s) == digest::fields(after) {
+            1
+        } else {
+            0
+        },
+        b" ",
     );
-    show_one(b"places that differed", counts::at(all, counts::PLACES));
-    show_one(b"tables not normal", counts::at(all, counts::NORMAL));
-    show_one(b"tables with a freed slot", counts::at(all, counts::FREED));
-    show_one(b"tables with a shared lead", counts::at(all, counts::LEADS));
-    show_one(b"spreads that differed", counts::at(all, counts::SPREADING));
-    show_one(b"entries that differed", counts::at(all, counts::VALUES));
+    number(tidy(t), b" ");
+    let h = try_draw::word(spread.refusal as u64, after.live);
+    last(digest::entries(digest::places(h, places), t, a.look, n));
 }
 
-// How many comparisons differed.
-fn differed(all: &[u64]) -> u64 {
-    let mut sum: u64 = 0;
-    let mut i: usize = counts::NUMBERS;
-    while i < counts::ALL {
-        sum = std::num::wrapping_add_u64(sum, counts::at(all, i));
-        i += 1;
+// The seat after record `n` on it, with a second seat beside it.
+fn step(a: Seat, b: Seat, r: Record, n: u64) -> Seat {
+    let t = a.table;
+    let other = b.table;
+    let s = t.state;
+    let code = r.code;
+    match code {
+        0..=7 => {
+            let c = call::made(r, t, other);
+            let after = c.table;
+            show(a, c, n);
+            Seat {
+                table: after,
+                look: a.look,
+            }
+        }
+        8 => {
+            last(digest::entry(0, t, r.word));
+            a
+        }
+        9 => b,
+        10 => Seat {
+            table: t,
+            look: r.word,
+        },
+        _ => Seat {
+            table: Table {
+                state: put::field(s, r),
+            },
+            look: a.look,
+        },
     }
-    sum
 }
 
-// The last line.
-fn show_verdict(n: u64) {
-    if n == 0 {
-        io::write_all(1, b"all agreed\n");
-    } else {
-        show_one(b"differed", n);
-    }
-}
-
-// The histories, then the plans, and the lines.
+// Record after record, to the end of the input.
 fn main() {
-    let mut area = [0u64; 12288];
-    let mut all = [0u64; counts::ALL];
-    history::run(HISTORIES, &mut area, &mut all);
-    script::run(&mut area, &mut all);
-    show_calls(&all);
-    show_totals(&all);
-    show_differences(&all);
-    show_verdict(differed(&all));
+    let fresh = Seat {
+        table: Table::fresh(),
+        look: 0,
+    };
+    let mut seats = [fresh; 8];
+    let mut n: u64 = 0;
+    while n < MOST {
+        let mut bytes = [0u8; record::SIZE];
+        if io::read_full(0, &mut bytes) < record::SIZE {
+            return;
+        }
+        let r = record::read(&bytes);
+        let i = (r.table % 8) as usize;
+        let j = (r.other % 8) as usize;
+        let a = seats[i];
+        let b = seats[j];
+        seats[i] = step(a, b, r, n);
+        n += 1;
+    }
 }

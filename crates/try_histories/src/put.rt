@@ -1,0 +1,77 @@
+// A field of a table put to what a record says, whatever the table is then: how the script spoils tables.
+use super::record;
+use super::record::Record;
+use exact::Eighth;
+use exact::Quarter;
+use form::Form;
+use state::State;
+use ties::Ties;
+
+// The phase, a turn, or bits of a row turned over.
+fn form(mut f: Form, r: Record) -> Form {
+    let v = (r.place % 64) as usize;
+    let code = r.code;
+    match code {
+        14 => {
+            let c = Eighth(r.small);
+            f.phase = c;
+            f
+        }
+        15 => {
+            let a = Quarter(r.small);
+            f.turns[v] = a;
+            f
+        }
+        _ => {
+            f.signs[v] = f.signs[v] ^ r.word;
+            f
+        }
+    }
+}
+
+// How many ties there are, or a tie.
+fn ties(mut t: Ties, r: Record) -> Ties {
+    let j = (r.place % 64) as usize;
+    let code = r.code;
+    match code {
+        17 => {
+            t.count = r.word as usize;
+            t
+        }
+        _ => {
+            t.masks[j] = r.word;
+            t.sides[j] = r.small;
+            t
+        }
+    }
+}
+
+// The field of a code from 11 on.
+pub(crate) fn field(mut t: State, r: Record) -> State {
+    let f = t.form;
+    let s = t.ties;
+    let code = r.code;
+    match code {
+        11 => {
+            t.zero = r.small == 1;
+            t
+        }
+        12 => {
+            let p = record::power(r.word);
+            t.power = p;
+            t
+        }
+        13 => {
+            t.live = r.word;
+            t
+        }
+        14..=16 => {
+            t.form = form(f, r);
+            t
+        }
+        _ => {
+            t.ties = ties(s, r);
+            t
+        }
+    }
+}
