@@ -53,7 +53,7 @@ pub(crate) fn places(before: u64, t: Ties) -> u64 {
     let mut h = before;
     let mut j: usize = 0;
     while j < 68 {
-        h = tie(h, ties_search::tie_at(t, j));
+        h = tie(h, t.tie_at(j));
         h = try_draw::word(h, ties_search::lead_index(t, Slot(j)) as u64);
         h = try_draw::word(h, ties_search::last_with(t, Slot(j)) as u64);
         j += 1;
