@@ -86,3 +86,22 @@ def functions(crate):
                 head.append(lines[at])
                 at += 1
             yield path, m.group(2), (m.group(1) or "").strip() == "pub", head, brings
+
+
+def stated(lines, names):
+    """The statements of the laws of these names, with what the modules around them are about; all of the file where names is None."""
+    if names is None:
+        return "\n".join(line for line in lines if not line.startswith(("--", "use ")))
+    text, modules, inside = [], [], None
+    for line in lines:
+        word = line.strip().removeprefix("pub ").split(" ")[0]
+        if line.strip().startswith("module _"):
+            modules, inside = modules + [line], None
+        elif re.match(r"^\s*(?:pub )?\S+ : ", line):
+            inside = word if word in names else None
+            text += modules if inside else []
+        elif inside and word == inside:
+            inside = None
+        if inside:
+            text.append(line)
+    return "\n".join(text)

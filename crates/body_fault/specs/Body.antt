@@ -1,5 +1,5 @@
 -- A table's body in a book: its fields as the bytes state them, and when they are refused.
--- "Table body, n = width 0..64, live slots 0..n−1: zero mark, c, s, n bytes a, n rows of 8 bytes b, tie count, then for each tie an 8-byte mask and r."
+-- "Table body, n = width 0..64, live slots 0..n−1: zero mark, c, s (16 bits, two's complement), n bytes a, n rows of 8 bytes b (bit u of row v is b_uv), tie count, then for each tie an 8-byte mask and r."
 use mathlib.Core.Bool.{Bool, not, _||_, cond}
 use mathlib.Core.List.{List}
 use Prim.Native.Nat.{ℕ, _+_, _*_, _^_}
@@ -8,7 +8,7 @@ use lib.IntN.{ℤ, pos, _-ℤ_}
 use lib.ListN.{length}
 use Rattle.state.specs.Number.{outside}
 use Rattle.fields.specs.Bytes.{byteAt, number}
-use Rattle.contents.specs.Contents.{some}
+use Rattle.contents.specs.Contents.{anyBelow}
 
 -- ---- the fields
 -- "zero mark, c", bytes 0 and 1
@@ -35,8 +35,8 @@ abbrev pub rowOf : ℕ → List ℕ → ℕ → ℕ
 rowOf n bs v = number 8 bs (4 + n + 8 * v)
 
 -- "tie count"
-abbrev pub countOf : ℕ → List ℕ → ℕ
-countOf n bs = byteAt bs (4 + 9 * n)
+abbrev pub tieCount : ℕ → List ℕ → ℕ
+tieCount n bs = byteAt bs (4 + 9 * n)
 
 -- "then for each tie an 8-byte mask and r"
 abbrev pub maskOf : ℕ → List ℕ → ℕ → ℕ
@@ -49,7 +49,7 @@ sideOf n bs j = byteAt bs (5 + 9 * n + 9 * j + 8)
 -- "body length wrong, .. table width above 64, more ties than n"
 unfoldable pub sizeFault : ℕ → List ℕ → Bool
 sizeFault n bs =
-    ltb 64 n || ltb (length bs) (5 + 9 * n) || ltb n (countOf n bs) || not (eqb (length bs) (5 + 9 * n + 9 * countOf n bs))
+    ltb 64 n || ltb (length bs) (5 + 9 * n) || ltb n (tieCount n bs) || not (eqb (length bs) (5 + 9 * n + 9 * tieCount n bs))
 
 -- "a field out of range (s beyond ±2,000, zero mark .. above 1": "a phase c (0..7)"
 unfoldable pub headFault : List ℕ → Bool
@@ -70,4 +70,4 @@ tieFault n bs j = leb (2 ^ n) (maskOf n bs j) || ltb 1 (sideOf n bs j)
 -- a body of width n is refused by 11
 unfoldable pub bodyFault : ℕ → List ℕ → Bool
 bodyFault n bs =
-    sizeFault n bs || headFault bs || some n (turnFault bs) || some n (rowFault n bs) || some (countOf n bs) (tieFault n bs)
+    sizeFault n bs || headFault bs || anyBelow n (turnFault bs) || anyBelow n (rowFault n bs) || anyBelow (tieCount n bs) (tieFault n bs)

@@ -3,8 +3,8 @@ ghost use mathlib.Core.Path.{_≡_};
 ghost use Prim.Native.Nat.{_^_};
 ghost use lib.Dec.{leb};
 ghost use Rattle.state.specs.Number.{outside};
-ghost use Rattle.contents.specs.Contents.{some};
-ghost use Rattle.body_fault.specs.Body.{signed16, powerOf, turnOf, rowOf, countOf, maskOf, sideOf};
+ghost use Rattle.contents.specs.Contents.{anyBelow};
+ghost use Rattle.body_fault.specs.Body.{signed16, powerOf, turnOf, rowOf, tieCount, maskOf, sideOf};
 ghost use Rattle.body_fault.specs.Body.{sizeFault, headFault, turnFault, rowFault, tieFault, bodyFault};
 
 // ---- The fields. Every function of these takes any bytes: a byte beyond the end counts as 0.
@@ -42,7 +42,7 @@ pub fn row_of(bs: &[u8], width: u8, v: u8) -> u64
 
 // The tie count.
 pub fn count_of(bs: &[u8], width: u8) -> u8
-    ensures { λ r. ⌜ r ≡ countOf width (now (bs .entry)) ⌝ }
+    ensures { λ r. ⌜ r ≡ tieCount width (now (bs .entry)) ⌝ }
 {
     fields::read_u8(bs, 4 + 9 * (width as usize))
 }
@@ -113,9 +113,9 @@ fn head_fault(bs: &[u8]) -> bool
     power_out(power_of(bs))
 }
 
-// Whether some turn is out of range.
+// Whether anyBelow turn is out of range.
 fn turn_fault(bs: &[u8], width: u8) -> bool
-    ensures { λ r. ⌜ r ≡ some width (turnFault (now (bs .entry))) ⌝ }
+    ensures { λ r. ⌜ r ≡ anyBelow width (turnFault (now (bs .entry))) ⌝ }
 {
     let mut v: u8 = 0;
     while v < width {
@@ -127,9 +127,9 @@ fn turn_fault(bs: &[u8], width: u8) -> bool
     false
 }
 
-// Whether some row has a bit at or above the width.
+// Whether anyBelow row has a bit at or above the width.
 fn row_fault(bs: &[u8], width: u8) -> bool
-    ensures { λ r. ⌜ r ≡ some width (rowFault width (now (bs .entry))) ⌝ }
+    ensures { λ r. ⌜ r ≡ anyBelow width (rowFault width (now (bs .entry))) ⌝ }
 {
     let mut v: u8 = 0;
     while v < width {
@@ -151,9 +151,9 @@ fn tie_fault(bs: &[u8], width: u8, j: u8) -> bool
     side_of(bs, width, j) > 1
 }
 
-// Whether some tie is out of range.
+// Whether anyBelow tie is out of range.
 fn ties_fault(bs: &[u8], width: u8) -> bool
-    ensures { λ r. ⌜ r ≡ some (countOf width (now (bs .entry))) (tieFault width (now (bs .entry))) ⌝ }
+    ensures { λ r. ⌜ r ≡ anyBelow (tieCount width (now (bs .entry))) (tieFault width (now (bs .entry))) ⌝ }
 {
     let k = count_of(bs, width);
     let mut j: u8 = 0;

@@ -5,3 +5,4 @@ pub mod Parts
 pub mod Table
 pub mod Read
 pub mod Stated
+pub mod Only

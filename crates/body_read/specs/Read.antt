@@ -15,7 +15,7 @@ pub use Rattle.body_read.specs.declared.Reading.{Reading}
 abbrev pub reading : ℕ → State → Reading
 reading k t = record { refusal = k; table = t }
 
--- r is what reading a body of width n answers. "Table body: 11 before 12." "A refusal answers its number only, .. (where no table was handed in, the fresh one)"
+-- r is what reading a body of width n answers. "Table body: 11 before 12." "A refusal answers its number only, with the table unchanged (in a join, the first; where no table was handed in, the fresh one)"
 pub record Reads (n : ℕ) (bs : List ℕ) (r : Reading) : Type 0 where
   pub fault : bodyFault n bs ≡ true → r ≡ reading badBody freshTable
   -- 12: "a table handed in or read is not normal"

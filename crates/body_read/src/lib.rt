@@ -3,7 +3,7 @@ ghost use mathlib.Core.Bool.{false};
 ghost use mathlib.Core.Path.{_≡_};
 ghost use Prim.Native.Nat.{_≤_, _-_, _^_};
 ghost use Rattle.form.specs.Form.{quarter};
-ghost use Rattle.body_fault.specs.Body.{rowOf, countOf, maskOf, sideOf, bodyFault};
+ghost use Rattle.body_fault.specs.Body.{rowOf, tieCount, maskOf, sideOf, bodyFault};
 ghost use Rattle.body_read.specs.Table.{quarterOf, padded, formOf, tiesOf, tableOf};
 ghost use Rattle.body_read.specs.Read.{Reads};
 use exact::Eighth;
@@ -71,8 +71,8 @@ fn form_of(bs: &[u8], width: u8) -> Form
 
 // The masks of the ties.
 fn masks_of(bs: &[u8], width: u8) -> [u64; 64]
-    requires { ⌜ countOf width (now bs) ≤ 64 ⌝ }
-    ensures { λ r. ⌜ r ≡ padded 0 (countOf width (now (bs .entry))) (maskOf width (now (bs .entry))) ⌝ }
+    requires { ⌜ tieCount width (now bs) ≤ 64 ⌝ }
+    ensures { λ r. ⌜ r ≡ padded 0 (tieCount width (now (bs .entry))) (maskOf width (now (bs .entry))) ⌝ }
 {
     let k = body_fault::count_of(bs, width);
     let mut masks = [0u64; 64];
@@ -87,8 +87,8 @@ fn masks_of(bs: &[u8], width: u8) -> [u64; 64]
 
 // What each tie's sum is.
 fn sides_of(bs: &[u8], width: u8) -> [u8; 64]
-    requires { ⌜ countOf width (now bs) ≤ 64 ⌝ }
-    ensures { λ r. ⌜ r ≡ padded 0 (countOf width (now (bs .entry))) (sideOf width (now (bs .entry))) ⌝ }
+    requires { ⌜ tieCount width (now bs) ≤ 64 ⌝ }
+    ensures { λ r. ⌜ r ≡ padded 0 (tieCount width (now (bs .entry))) (sideOf width (now (bs .entry))) ⌝ }
 {
     let k = body_fault::count_of(bs, width);
     let mut sides = [0u8; 64];
@@ -103,7 +103,7 @@ fn sides_of(bs: &[u8], width: u8) -> [u8; 64]
 
 // The ties.
 fn ties_of(bs: &[u8], width: u8) -> Ties
-    requires { ⌜ countOf width (now bs) ≤ 64 ⌝ }
+    requires { ⌜ tieCount width (now bs) ≤ 64 ⌝ }
     ensures { λ r. ⌜ r ≡ tiesOf width (now (bs .entry)) ⌝ }
 {
     Ties {

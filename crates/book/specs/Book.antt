@@ -15,8 +15,8 @@ use Rattle.body_fault.specs.Body.{bodyFault}
 use Rattle.body_read.specs.Table.{tableOf}
 
 -- the bytes of body j: "length (16 bits), start (32 bits)"
-unfoldable pub bodyBytes : List ℕ → ℕ → List ℕ
-bodyBytes bs j = take (lengthOf bs j) (drop (startOf bs j) bs)
+unfoldable pub bytesOf : List ℕ → ℕ → List ℕ
+bytesOf bs j = take (lengthOf bs j) (drop (startOf bs j) bs)
 
 -- ---- a circuit's body
 -- "Circuit body: input string (32 bits), output string (32 bits), gates."
@@ -46,8 +46,8 @@ pub record TableNumber (n : ℕ) (bs : List ℕ) (k : ℕ) : Type 0 where
 -- ---- the bodies and the book
 -- k is the number of body j, 0 where it is not refused. "kind (1 circuit, 2 table)"
 pub record BodyNumber (bs : List ℕ) (j k : ℕ) : Type 0 where
-  pub circuit : kindOf bs j ≡ 1 → k ≡ circuitBodyNumber (widthOf bs j) (bodyBytes bs j)
-  pub table : kindOf bs j ≡ 2 → TableNumber (widthOf bs j) (bodyBytes bs j) k
+  pub circuit : kindOf bs j ≡ 1 → k ≡ circuitBodyNumber (widthOf bs j) (bytesOf bs j)
+  pub table : kindOf bs j ≡ 2 → TableNumber (widthOf bs j) (bytesOf bs j) k
 
 -- none of the first n bodies is refused
 abbrev pub Clear : List ℕ → ℕ → Type 0

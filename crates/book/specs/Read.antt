@@ -15,7 +15,7 @@ use Rattle.circuit.specs.Amplitude.{Amplitude}
 use Rattle.contents.specs.Contents.{countOf, kindOf, widthOf}
 use Rattle.body_fault.specs.Body.{bodyFault}
 use Rattle.body_read.specs.Table.{tableOf}
-use Rattle.book.specs.Book.{bodyBytes, inputOf, outputOf, gatesOf, circuitBodyNumber, BookNumber}
+use Rattle.book.specs.Book.{bytesOf, inputOf, outputOf, gatesOf, circuitBodyNumber, BookNumber}
 pub use Rattle.book.specs.declared.Said.{Said}
 pub use Rattle.book.specs.declared.Said.the-variants.{Refused, Circuit, Whole}
 pub use Rattle.book.specs.declared.Body.{Body}
@@ -34,30 +34,30 @@ saidAmount Whole = none
 abbrev pub body : Said → State → Body
 body s t = record { said = s; table = t }
 
--- "A refusal answers its number only, .. (where no table was handed in, the fresh one)"
+-- "A refusal answers its number only, with the table unchanged (in a join, the first; where no table was handed in, the fresh one)"
 abbrev pub refusal : ℕ → Body
 refusal k = body (Refused k) freshTable
 
--- "the circuit's amplitude, with the fresh table in the table's place"
-abbrev pub amplitude : Amount → Body
-amplitude a = body (Circuit a) freshTable
+-- "the circuit's circuitBody, with the fresh table in the table's place"
+abbrev pub circuitBody : Amount → Body
+circuitBody a = body (Circuit a) freshTable
 
 -- "or the table itself"
-abbrev pub whole : State → Body
-whole t = body Whole t
+abbrev pub tableBody : State → Body
+tableBody t = body Whole t
 
 -- ---- a body on its own
 -- what a circuit's body of width n answers
 pub record CircuitAnswer (n : ℕ) (bs : List ℕ) (r : Body) : Type 0 where
   pub refused : circuitBodyNumber n bs ≢ accepted → r ≡ refusal (circuitBodyNumber n bs)
-  pub given : circuitBodyNumber n bs ≡ accepted → r ≡ amplitude (saidAmount (r .said))
+  pub given : circuitBodyNumber n bs ≡ accepted → r ≡ circuitBody (saidAmount (r .said))
   pub value : circuitBodyNumber n bs ≡ accepted → Amplitude n (inputOf bs) (outputOf bs) (gatesOf bs) (Is (saidAmount (r .said)))
 
 -- what a table's body of width n answers
 pub record TableAnswer (n : ℕ) (bs : List ℕ) (r : Body) : Type 0 where
   pub fault : bodyFault n bs ≡ true → r ≡ refusal badBody
   pub broken : bodyFault n bs ≡ false → (Normal (tableOf n bs) → ⊥) → r ≡ refusal notNormal
-  pub sound : bodyFault n bs ≡ false → Normal (tableOf n bs) → r ≡ whole (tableOf n bs)
+  pub sound : bodyFault n bs ≡ false → Normal (tableOf n bs) → r ≡ tableBody (tableOf n bs)
   pub normal : saidNumber (r .said) ≡ accepted → Normal (tableOf n bs)
 
 -- "kind (1 circuit, 2 table)"
@@ -66,11 +66,11 @@ pub record BodyAnswer (kind n : ℕ) (bs : List ℕ) (r : Body) : Type 0 where
   pub table : kind ≡ 2 → TableAnswer n bs r
 
 -- ---- a body of a book
--- r is what reading body j answers. "the whole book is tested before any body is answered": "book refusals, then 14"
+-- r is what reading body j answers. "the tableBody book is tested before any body is answered": "book refusals, then 14"
 pub record ReadsBody (bs : List ℕ) (j : ℕ) (r : Body) : Type 0 where
   pub number : ℕ
   pub tested : BookNumber bs number
   pub refused : number ≢ accepted → r ≡ refusal number
   -- 14: "no body of that number"
   pub beyond : number ≡ accepted → countOf bs ≤ j → r ≡ refusal noBody
-  pub answer : number ≡ accepted → j < countOf bs → BodyAnswer (kindOf bs j) (widthOf bs j) (bodyBytes bs j) r
+  pub answer : number ≡ accepted → j < countOf bs → BodyAnswer (kindOf bs j) (widthOf bs j) (bytesOf bs j) r

@@ -2,7 +2,7 @@
 ghost use mathlib.Core.Path.{_≡_};
 ghost use Prim.Native.Nat.{_<_};
 ghost use Rattle.contents.specs.Contents.{countOf, kindOf, widthOf, contentsNumber};
-ghost use Rattle.book.specs.Book.{bodyBytes, circuitBodyNumber, TableNumber, BodyNumber, BookNumber};
+ghost use Rattle.book.specs.Book.{bytesOf, circuitBodyNumber, TableNumber, BodyNumber, BookNumber};
 ghost use Rattle.book.specs.Inner.Said.{saidOf};
 ghost use Rattle.book.specs.Read.{refusal, CircuitAnswer, TableAnswer, BodyAnswer, ReadsBody};
 use exact::Amount;
@@ -80,7 +80,7 @@ fn table_body(part: &[u8], width: u8) -> Body
 // What body j of a book with good contents answers: for a caller that has tested the book and would not test it again.
 pub fn body_at(book: &[u8], j: usize) -> Body
     requires { ⌜ (contentsNumber (now book) ≡ 0) × (j < countOf (now book)) ⌝ }
-    ensures { λ r. ⌜ BodyAnswer (kindOf (now (book .entry)) j) (widthOf (now (book .entry)) j) (bodyBytes (now (book .entry)) j) r ⌝ }
+    ensures { λ r. ⌜ BodyAnswer (kindOf (now (book .entry)) j) (widthOf (now (book .entry)) j) (bytesOf (now (book .entry)) j) r ⌝ }
 {
     let e = contents::entry_at(book, j);
     let from = e.start;

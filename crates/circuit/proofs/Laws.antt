@@ -1,2 +1,3 @@
 pub mod Amplitude
 pub mod Begin
+pub mod Only

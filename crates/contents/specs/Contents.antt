@@ -34,10 +34,10 @@ entryOf bs j = record { kind = kindOf bs j; width = widthOf bs j; start = startO
 unfoldable pub bodyStart : List ℕ → ℕ → ℕ
 bodyStart bs j = 4 + 8 * countOf bs + total j (lengthOf bs)
 
--- f holds of some number below n
-unfoldable pub some : ℕ → (ℕ → Bool) → Bool
-some zero f = false
-some (suc n) f = some n f || f n
+-- f holds of anyBelow number below n
+unfoldable pub anyBelow : ℕ → (ℕ → Bool) → Bool
+anyBelow zero f = false
+anyBelow (suc n) f = anyBelow n f || f n
 
 -- 9: "book shorter than 4 or longer than 60,000 bytes, wrong letters, edition, or count"
 unfoldable pub headerFault : List ℕ → Bool
@@ -64,7 +64,7 @@ entryFault bs j = faultAt (entryOf bs j) (bodyStart bs j) (length bs)
 -- 10: "contents too short, kind, start, end beyond the book, last end (with no body, the contents' end) not the book's end"
 unfoldable pub contentsFault : List ℕ → Bool
 contentsFault bs =
-    ltb (length bs) (4 + 8 * countOf bs) || some (countOf bs) (entryFault bs) || not (eqb (bodyStart bs (countOf bs)) (length bs))
+    ltb (length bs) (4 + 8 * countOf bs) || anyBelow (countOf bs) (entryFault bs) || not (eqb (bodyStart bs (countOf bs)) (length bs))
 
 -- "Books: 9, contents in order": 0 where header and contents are good
 unfoldable pub contentsNumber : List ℕ → ℕ

@@ -1,3 +1,4 @@
 pub mod Lay
 pub mod Laid
 pub mod Round
+pub mod Only

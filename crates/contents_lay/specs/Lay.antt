@@ -8,14 +8,14 @@ use lib.ListN.{length, getD}
 use Rattle.exact.specs.Refusal.{badHeader, badContents, areaShort, first, _gives_}
 use Rattle.exact.specs.Sum.{total}
 use Rattle.fields.specs.Bytes.{le, front}
-use Rattle.contents.specs.Contents.{some, goodKind}
+use Rattle.contents.specs.Contents.{anyBelow, goodKind}
 pub use Rattle.contents_lay.specs.declared.Written.{Written}
 
 -- "Bytes 0–3: 51 4E, edition 01, count k"
 abbrev pub headerBytes : ℕ → List ℕ
 headerBytes k = 0x51 ∷ 0x4E ∷ 1 ∷ k ∷ []
 
--- "entries of 8 bytes: kind, width, length (16 bits), start (32 bits)"
+-- "k entries of 8 bytes: kind (1 circuit, 2 table), width, length (16 bits), start (32 bits)"
 unfoldable pub entryBytes : ℕ → ℕ → ℕ → ℕ → List ℕ
 entryBytes kind width size start = kind ∷ width ∷ (le 2 size ++ le 4 start)
 
@@ -43,7 +43,7 @@ badKind ks i = not (goodKind (getD ks i 0))
 -- 10: "lists to lay unequal, bad kind, or total above 60,000"
 unfoldable pub badLists : List ℕ → List ℕ → List ℕ → Bool
 badLists ks ws ls =
-    not (eqb (length ws) (length ks)) || not (eqb (length ls) (length ks)) || some (length ks) (badKind ks) || ltb 60000 (laidStart ls (length ls))
+    not (eqb (length ws) (length ks)) || not (eqb (length ls) (length ks)) || anyBelow (length ks) (badKind ks) || ltb 60000 (laidStart ls (length ls))
 
 -- "Writers: 12, 9, 10, 13", in an area of so many bytes; 13: "lent area too short for what is to be written"
 unfoldable pub layNumber : ℕ → List ℕ → List ℕ → List ℕ → ℕ
@@ -65,6 +65,6 @@ unfoldable pub laidArea : List ℕ → List ℕ → List ℕ → List ℕ → Li
 laidArea xs ks ws ls = unless (layNumber (length xs) ks ws ls) (front xs (laidBytes ks ws ls)) xs
 
 -- the writer's answer, and the area from xs to ys
-pub record Laid (xs ks ws ls : List ℕ) (r : Written) (ys : List ℕ) : Type 0 where
+pub record ContentsLaid (xs ks ws ls : List ℕ) (r : Written) (ys : List ℕ) : Type 0 where
   pub answer : r ≡ laidAnswer xs ks ws ls
   pub area : ys ≡ laidArea xs ks ws ls

@@ -3,8 +3,8 @@ ghost use mathlib.Core.Path.{_≡_};
 ghost use Prim.Native.Nat.{_≤_};
 ghost use lib.ListN.{length};
 ghost use Rattle.fields.specs.Bytes.{front};
-ghost use Rattle.contents.specs.Contents.{some};
-ghost use Rattle.contents_lay.specs.Lay.{headerBytes, entryBytes, entriesBytes, laidStart, badKind, layNumber, Laid};
+ghost use Rattle.contents.specs.Contents.{anyBelow};
+ghost use Rattle.contents_lay.specs.Lay.{headerBytes, entryBytes, entriesBytes, laidStart, badKind, layNumber, ContentsLaid};
 ghost use Rattle.contents_lay.specs.Inner.Entries.{Entries};
 
 // What a writer answers: a refusal's number or 0, and the bytes written.
@@ -13,9 +13,9 @@ pub struct Written {
     pub bytes: usize,
 }
 
-// Whether some kind is neither of the two.
+// Whether anyBelow kind is neither of the two.
 fn bad_kind(kinds: &[u8]) -> bool
-    ensures { λ r. ⌜ r ≡ some (length (now (kinds .entry))) (badKind (now (kinds .entry))) ⌝ }
+    ensures { λ r. ⌜ r ≡ anyBelow (length (now (kinds .entry))) (badKind (now (kinds .entry))) ⌝ }
 {
     let mut i = 0usize;
     while i < kinds.len() {
@@ -113,7 +113,7 @@ fn write_entries(part: &mut [u8], kinds: &[u8], widths: &[u8], lengths: &[u16])
 
 // Header and contents at the front of a lent area, from three lists; where refused, nothing is written.
 pub fn lay(area: &mut [u8], kinds: &[u8], widths: &[u8], lengths: &[u16]) -> Written
-    ensures { λ r. ⌜ Laid (now (area .entry)) (now (kinds .entry)) (now (widths .entry)) (now (lengths .entry)) r (now (area .exit)) ⌝ }
+    ensures { λ r. ⌜ ContentsLaid (now (area .entry)) (now (kinds .entry)) (now (widths .entry)) (now (lengths .entry)) r (now (area .exit)) ⌝ }
 {
     let refusal = lay_number(area.len(), kinds, widths, lengths);
     if refusal != 0 {

@@ -3,7 +3,7 @@ pub mod Exact
 pub mod Stepped
 pub mod Raised
 pub mod Parts
-pub mod Answer
+pub mod Only
 pub mod Nearest
 pub mod Turns
 pub mod Finite

@@ -1,14 +1,12 @@
--- The answer's three cases, and an amount's answer. "Refused as Entry is; otherwise an entry's value, either plain zero or two doubles."
+-- The answer's three cases, and an amount's answer. "refused as Entry is; otherwise an entry's value, either plain zero or two doubles"
 use Prim.Native.Nat.{ℕ, _%_}
 use mathlib.Core.List.{List, [], _∷_}
 use lib.IntN.{ℤ, predℤ}
 use lib.Ieee.{Float}
 use Rattle.exact.specs.declared.Amount.{Amount}
-use Rattle.exact.specs.declared.Amount.the-variants.{Zero as NoAmount, Some}
-use Rattle.exact.specs.declared.Answer.{Answer as Asked}
-use Rattle.exact.specs.declared.Answer.the-variants.{Refused as NotGiven, Is as Given}
+use Rattle.exact.specs.declared.Amount.the-variants.{Some}
 use Rattle.doubles.specs.Power.{rootPower}
-use Rattle.doubles.specs.Parts.{plusZero, realPart, imaginaryPart, held}
+use Rattle.doubles.specs.Parts.{plusZero, realPart, imaginaryPart, clamped}
 pub use Rattle.doubles.specs.declared.Doubles.{Doubles}
 pub use Rattle.doubles.specs.declared.Doubles.the-variants.{Refused, Zero, Value}
 
@@ -23,20 +21,15 @@ answer (Refused k) = record { number = k; values = [] }
 answer Zero = record { number = 0; values = plusZero ∷ [] }
 answer (Value x y) = record { number = 0; values = x ∷ y ∷ [] }
 
--- √2^s · ω^p, "the real part comes first"
+-- √2^s · ω^p, "The real part comes first."
 abbrev pub pairOf : ℤ → ℕ → List Float
 pairOf s p = realPart p (rootPower s) (rootPower (predℤ s)) ∷ imaginaryPart p (rootPower s) (rootPower (predℤ s)) ∷ []
 
--- any power and any phase: the power held within −2,000..2,000, the phase modulo 8
+-- any power and any phase: the power clamped within −2,000..2,000, the phase modulo 8
 unfoldable pub partsOf : ℤ → ℕ → Answer
-partsOf s p = record { number = 0; values = pairOf (held s) (p % 8) }
+partsOf s p = record { number = 0; values = pairOf (clamped s) (p % 8) }
 
 -- an amount is never refused; zero is plain zero
 unfoldable pub answerOf : Amount → Answer
 answerOf NoAmount = record { number = 0; values = plusZero ∷ [] }
 answerOf (Some s c) = partsOf (s .0) (c .0)
-
--- a refusal's number, or the amount's answer
-unfoldable pub answerFor : Asked → Answer
-answerFor (NotGiven k) = record { number = k; values = [] }
-answerFor (Given a) = answerOf a

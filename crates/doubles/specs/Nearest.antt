@@ -7,18 +7,18 @@ use lib.Dec.{T}
 use lib.Ieee.{Float, nan, inf, fin, binary64, up, down, fits}
 
 -- an odd power, an even power; −(n + 1) is odd where n is even
-abbrev pub Odd : ℤ → Type 0
-Odd (pos n) = n % 2 ≡ 1
-Odd (negsuc n) = n % 2 ≡ 0
+abbrev pub OddPower : ℤ → Type 0
+OddPower (pos n) = n % 2 ≡ 1
+OddPower (negsuc n) = n % 2 ≡ 0
 
-abbrev pub Even : ℤ → Type 0
-Even (pos n) = n % 2 ≡ 0
-Even (negsuc n) = n % 2 ≡ 1
+abbrev pub EvenPower : ℤ → Type 0
+EvenPower (pos n) = n % 2 ≡ 0
+EvenPower (negsuc n) = n % 2 ≡ 1
 
 -- a power from −2,001 to 2,001
-abbrev pub InRange : ℤ → Type 0
-InRange (pos n) = n ≤ 2001
-InRange (negsuc n) = n ≤ 2000
+abbrev pub PartRange : ℤ → Type 0
+PartRange (pos n) = n ≤ 2001
+PartRange (negsuc n) = n ≤ 2000
 
 -- m·2^e is the double nearest to √2^s: it is a double of 53 binary digits, so that its neighbours are (m ± 1)·2^e, and
 -- √2^s lies between (m − 1/2)·2^e and (m + 1/2)·2^e. Here 2^e is up e / down e, and √2^s squared is up s / down s.

@@ -1,4 +1,4 @@
--- The two components of √2^s · ω^p. "With p even, one component is ±√2^s and the other zero; with p odd, both are ±√2^(s−1). A zero component is plus zero."
+-- The two components of √2^s · ω^p. "With p even, one component is ±√2^s and the other zero; with p odd, both are ±√2^(s−1)." "A zero component is plus zero."
 use Prim.Native.Nat.{ℕ, zero, suc, min}
 use mathlib.Core.Bool.{false}
 use lib.IntN.{ℤ, pos, negsuc}
@@ -31,6 +31,6 @@ imaginaryPart (suc (suc (suc (suc (suc (suc zero)))))) r h = neg r
 imaginaryPart (suc (suc (suc (suc (suc (suc (suc p))))))) r h = neg h
 
 -- a power from −2,000 to 2,000 is itself; one beyond counts as the nearer end
-unfoldable pub held : ℤ → ℤ
-held (pos n) = pos (min n 2000)
-held (negsuc n) = negsuc (min n 1999)
+unfoldable pub clamped : ℤ → ℤ
+clamped (pos n) = pos (min n 2000)
+clamped (negsuc n) = negsuc (min n 1999)

@@ -1,7 +1,8 @@
 // An amount as two doubles: document 01's "Doubles".
 ghost use mathlib.Core.Path.{_≡_};
-ghost use Rattle.doubles.specs.Steps.{repeated, startAt, stepped, raised};
-ghost use Rattle.doubles.specs.Answer.{answer, partsOf, answerOf, answerFor};
+ghost use Rattle.doubles.specs.Inner.Steps.{repeated, startAt, stepped, raised};
+ghost use Rattle.doubles.specs.Answer.{answer, partsOf, answerOf};
+ghost use Rattle.doubles.specs.Inner.Answer.{answerFor};
 ghost use Rattle.doubles.specs.Entry.{DoublesAt};
 use table::Table;
 

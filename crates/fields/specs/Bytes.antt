@@ -1,7 +1,6 @@
 -- "numbers are little-endian": a number as bytes, bytes as a number, and bytes laid over a part of a list.
-use mathlib.Core.Path.{_≡_}
 use mathlib.Core.List.{List, [], _∷_, _++_}
-use Prim.Native.Nat.{ℕ, zero, suc, _+_, _*_, _/_, _%_, _^_, _<_}
+use Prim.Native.Nat.{ℕ, zero, suc, _+_, _*_, _/_, _%_}
 use lib.ListN.{length, take, drop, getD}
 
 -- the byte at a place, and 0 beyond the end
@@ -12,11 +11,6 @@ byteAt bs i = getD bs i 0
 unfoldable pub le : ℕ → ℕ → List ℕ
 le zero v = []
 le (suc k) v = v % 256 ∷ le k (v / 256)
-
--- the number whose bytes, the lowest first, those are
-unfoldable pub ofLe : List ℕ → ℕ
-ofLe [] = 0
-ofLe (b ∷ bs) = b + 256 * ofLe bs
 
 -- the number of k bytes at a place, the lowest byte first
 unfoldable pub number : ℕ → List ℕ → ℕ → ℕ
@@ -30,8 +24,3 @@ front xs bs = bs ++ drop (length bs) xs
 -- bs at a place of xs: what stands before and behind stays
 unfoldable pub over : List ℕ → ℕ → List ℕ → List ℕ
 over xs at bs = take at xs ++ (bs ++ drop (at + length bs) xs)
-
--- r is the number of k bytes at a place of bs
-pub record Stated (k : ℕ) (bs : List ℕ) (at r : ℕ) : Type 0 where
-  pub is : r ≡ number k bs at
-  pub small : r < 256 ^ k

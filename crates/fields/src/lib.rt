@@ -3,7 +3,8 @@ ghost use mathlib.Core.Path.{_≡_};
 ghost use mathlib.Core.List.{[], _∷_};
 ghost use Prim.Native.Nat.{_+_, _≤_, _<_};
 ghost use lib.ListN.{length};
-ghost use Rattle.fields.specs.Bytes.{byteAt, le, front, Stated};
+ghost use Rattle.fields.specs.Bytes.{byteAt, le, front};
+ghost use Rattle.fields.specs.Inner.Bytes.{Stated};
 
 // The byte at a place, and 0 beyond the end.
 pub fn read_u8(s: &[u8], at: usize) -> u8

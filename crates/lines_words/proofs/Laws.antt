@@ -3,3 +3,4 @@ pub mod Laid
 pub mod Digits
 pub mod Decimal
 pub mod Signed
+pub mod Only

@@ -14,10 +14,10 @@ abbrev pub top : ℕ
 top = 18446744073709551615
 
 -- the place behind bs. Bytes that were dropped count too, so that a place above the area's length says that it was too short; it stops at the largest
-unfoldable pub after : ℕ → List ℕ → ℕ
-after at bs = min (at + length bs) top
+unfoldable pub placeBehind : ℕ → List ℕ → ℕ
+placeBehind at bs = min (at + length bs) top
 
 -- the text was laid over the area xs from a place on: the area is now ys, and the answer r is the place behind the text
-pub record Laid (xs : List ℕ) (at : ℕ) (text ys : List ℕ) (r : ℕ) : Type 0 where
+pub record TextLaid (xs : List ℕ) (at : ℕ) (text ys : List ℕ) (r : ℕ) : Type 0 where
   pub area : ys ≡ overlaid xs at text
-  pub place : r ≡ after at text
+  pub place : r ≡ placeBehind at text

@@ -2,7 +2,7 @@
 ghost use mathlib.Core.Path.{_≡_};
 ghost use mathlib.Core.List.{[], _∷_};
 ghost use lib.IntN.{natAbs};
-ghost use Rattle.lines_words.specs.Overlay.{Laid};
+ghost use Rattle.lines_words.specs.Overlay.{TextLaid};
 ghost use Rattle.lines_words.specs.Text.{digits, signedText};
 
 // The largest place.
@@ -10,7 +10,7 @@ const TOP: usize = 18446744073709551615;
 
 // One byte at a place of the area. Answers the next place; beyond the area's end the byte is dropped, and the place counts it all the same.
 pub fn put_byte(area: &mut [u8], at: usize, b: u8) -> usize
-    ensures { λ r. ⌜ Laid (now (area .entry)) at (b ∷ []) (now (area .exit)) r ⌝ }
+    ensures { λ r. ⌜ TextLaid (now (area .entry)) at (b ∷ []) (now (area .exit)) r ⌝ }
 {
     if at < area.len() {
         area[at] = b;
@@ -24,7 +24,7 @@ pub fn put_byte(area: &mut [u8], at: usize, b: u8) -> usize
 
 // The bytes of a word, from a place of the area on.
 pub fn put_word(area: &mut [u8], at: usize, word: &[u8]) -> usize
-    ensures { λ r. ⌜ Laid (now (area .entry)) at (now (word .entry)) (now (area .exit)) r ⌝ }
+    ensures { λ r. ⌜ TextLaid (now (area .entry)) at (now (word .entry)) (now (area .exit)) r ⌝ }
 {
     let mut place = at;
     let mut i = 0usize;
@@ -37,7 +37,7 @@ pub fn put_word(area: &mut [u8], at: usize, word: &[u8]) -> usize
 
 // A number in decimal: the digits of a tenth of it, then its last digit.
 pub fn put_number(area: &mut [u8], at: usize, n: u64) -> usize
-    ensures { λ r. ⌜ Laid (now (area .entry)) at (digits n) (now (area .exit)) r ⌝ }
+    ensures { λ r. ⌜ TextLaid (now (area .entry)) at (digits n) (now (area .exit)) r ⌝ }
 {
     if n < 10 {
         return put_byte(area, at, 48 + (n as u8));
@@ -58,7 +58,7 @@ pub fn size(n: i32) -> u64
 
 // A number in decimal, with a minus sign where it is negative.
 pub fn put_signed(area: &mut [u8], at: usize, n: i32) -> usize
-    ensures { λ r. ⌜ Laid (now (area .entry)) at (signedText n) (now (area .exit)) r ⌝ }
+    ensures { λ r. ⌜ TextLaid (now (area .entry)) at (signedText n) (now (area .exit)) r ⌝ }
 {
     if n < 0 {
         let next = put_byte(area, at, 45);

@@ -12,7 +12,7 @@ use Rattle.exact.specs.Amount.{none, some}
 use Rattle.state.specs.declared.State.{State}
 use Rattle.state.specs.Entry.{ties}
 use Rattle.contents.specs.Contents.{countOf}
-use Rattle.lines_words.specs.Overlay.{Laid}
+use Rattle.lines_words.specs.Overlay.{TextLaid}
 use Rattle.lines.specs.Lines.{bookLine, circuitLine, tableLine, refusedLine}
 use Rattle.book.specs.declared.Said.{Said}
 use Rattle.book.specs.declared.Said.the-variants.{Refused, Circuit, Whole}
@@ -48,6 +48,6 @@ pub record Listing (bs text : List ℕ) : Type 0 where
 pub record Listed (bs xs ys : List ℕ) (r : ℕ) : Type 0 where
   pub text : List ℕ
   pub listing : Listing bs text
-  pub laid : Laid xs 0 text ys r
+  pub laid : TextLaid xs 0 text ys r
   -- a line for each of at most 16 bodies: `15 T 64 64 -2000 7` has 19 bytes with its newline, and `book 16` has 8
   pub short : length text ≤ 312

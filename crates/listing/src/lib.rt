@@ -1,6 +1,6 @@
 // The listing of a book, written into a lent area.
 ghost use mathlib.Core.Path.{_≡_};
-ghost use Rattle.lines_words.specs.Overlay.{Laid};
+ghost use Rattle.lines_words.specs.Overlay.{TextLaid};
 ghost use Rattle.listing.specs.Listing.{tableAmount, bodyLine, Listed};
 use book::Body;
 use book::Said;
@@ -22,7 +22,7 @@ pub fn table_amount(t: State) -> Amount
 
 // The line of body j, from a place of the area on.
 fn body_line(area: &mut [u8], at: usize, j: u8, b: Body) -> usize
-    ensures { λ r. ⌜ Laid (now (area .entry)) at (bodyLine j (b .said) (b .table)) (now (area .exit)) r ⌝ }
+    ensures { λ r. ⌜ TextLaid (now (area .entry)) at (bodyLine j (b .said) (b .table)) (now (area .exit)) r ⌝ }
 {
     let t = b.table;
     let s = b.said;

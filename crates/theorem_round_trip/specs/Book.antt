@@ -7,9 +7,9 @@ use Rattle.exact.specs.Refusal.{accepted}
 use Rattle.fields.specs.Bytes.{over}
 use Rattle.contents_lay.specs.declared.Written.{Written}
 use Rattle.contents.specs.Contents.{countOf, kindOf, widthOf, lengthOf, contentsNumber}
-use Rattle.contents_lay.specs.Lay.{laidStart, laidBytes, Laid}
+use Rattle.contents_lay.specs.Lay.{laidStart, laidBytes, ContentsLaid}
 use Rattle.body_fields.specs.Fields.{joined}
-use Rattle.book.specs.Book.{bodyBytes, circuitBodyNumber, TableNumber, BookNumber}
+use Rattle.book.specs.Book.{bytesOf, circuitBodyNumber, TableNumber, BookNumber}
 
 -- "Contents first, then bodies", "in order without gaps"
 unfoldable pub laidBook : List ℕ → List ℕ → List ℕ → (ℕ → List ℕ) → List ℕ
@@ -29,10 +29,10 @@ pub record Holds (ks ws ls : List ℕ) (bodies : ℕ → List ℕ) (bs : List �
   pub kind : (j : ℕ) → j < length ks → kindOf bs j ≡ getD ks j 0
   pub width : (j : ℕ) → j < length ks → widthOf bs j ≡ getD ws j 0
   pub long : (j : ℕ) → j < length ks → lengthOf bs j ≡ getD ls j 0
-  pub body : (j : ℕ) → j < length ks → bodyBytes bs j ≡ bodies j
+  pub body : (j : ℕ) → j < length ks → bytesOf bs j ≡ bodies j
 
 -- an area xs in which header and contents were laid and then each body put in its place: areas n is what it is with n bodies put
 pub record PutTogether (xs ks ws ls : List ℕ) (bodies areas : ℕ → List ℕ) (r : Written) : Type 0 where
-  pub laid : Laid xs ks ws ls r (areas 0)
+  pub laid : ContentsLaid xs ks ws ls r (areas 0)
   pub unrefused : r .refusal ≡ accepted
   pub put : (j : ℕ) → j < length ks → areas (suc j) ≡ over (areas j) (laidStart ls j) (bodies j)

@@ -31,14 +31,14 @@ zeroOf Zero = 1
 zeroOf (Some s c) = 0
 
 -- the power, 0 for zero
-abbrev pub powerOf : Amount → ℤ
-powerOf Zero = pos 0
-powerOf (Some s c) = s .0
+abbrev pub powerTold : Amount → ℤ
+powerTold Zero = pos 0
+powerTold (Some s c) = s .0
 
 -- the phase, 0 for zero
-abbrev pub phaseOf : Amount → ℕ
-phaseOf Zero = 0
-phaseOf (Some s c) = c .0
+abbrev pub phaseTold : Amount → ℕ
+phaseTold Zero = 0
+phaseTold (Some s c) = c .0
 
 -- what stands behind the three pointers
 pub record Told : Type 0 where
@@ -50,11 +50,11 @@ abbrev pub behind : ℕ → ℤ → ℕ → Told
 behind z s c = record { zero = z; power = s; phase = c }
 
 abbrev pub told : Amount → Told
-told a = behind (zeroOf a) (powerOf a) (phaseOf a)
+told a = behind (zeroOf a) (powerTold a) (phaseTold a)
 
 -- ---- the calls: n is the number that they answer, 0 for none
 -- an answer told: refused by its number, with the three as they were; or its amount
-pub record Tells (a : Answer) (before : Told) (n : ℕ) (after : Told) : Type 0 where
+pub record AnswerTold (a : Answer) (before : Told) (n : ℕ) (after : Told) : Type 0 where
   pub number : n ≡ numberOf a
   pub kept : (k : ℕ) → a ≡ NotGiven k → after ≡ before
   pub given : (m : Amount) → a ≡ Is m → after ≡ told m
@@ -63,13 +63,13 @@ pub record Tells (a : Answer) (before : Told) (n : ℕ) (after : Told) : Type 0 
 pub record AmplitudeTold (width input output : ℕ) (bs : List ℕ) (before : Told) (n : ℕ) (after : Told) : Type 0 where
   pub answer : Answer
   pub is : Amplitude width input output bs answer
-  pub tells : Tells answer before n after
+  pub tells : AnswerTold answer before n after
 
 -- an entry of a table
 pub record EntryTells (t : State) (x : ℕ) (before : Told) (n : ℕ) (after : Told) : Type 0 where
   pub answer : Answer
   pub is : EntryAt t x answer
-  pub tells : Tells answer before n after
+  pub tells : AnswerTold answer before n after
 
 -- the entry of a table body at an assignment: refused as the body is, then as the entry is
 pub record EntryTold (width : ℕ) (bs : List ℕ) (x : ℕ) (before : Told) (n : ℕ) (after : Told) : Type 0 where

@@ -1,8 +1,8 @@
 // The calls for bench software in C: over numbers and byte slices alone. Each takes any bytes and any numbers; where it answers a number of refusal, nothing that was lent has changed, but that a writer answers 0 bytes.
 ghost use mathlib.Core.Path.{_≡_};
-ghost use Rattle.contents_lay.specs.Lay.{Laid};
+ghost use Rattle.contents_lay.specs.Lay.{ContentsLaid};
 ghost use Rattle.listing.specs.Listing.{Listed};
-ghost use Rattle.topazfern.specs.Told.{behind, told, Tells, AmplitudeTold, EntryTold, WriteTold, six, ReadTold};
+ghost use Rattle.topazfern.specs.Told.{behind, told, AnswerTold, AmplitudeTold, EntryTold, WriteTold, six, ReadTold};
 use book::Said;
 use exact::Amount;
 use exact::Answer;
@@ -29,7 +29,7 @@ fn tell(a: Amount, zero: &mut u8, power: &mut i32, phase: &mut u8)
 
 // An answer told: its number, and its amount behind the pointers where it is not refused.
 fn answer(a: Answer, zero: &mut u8, power: &mut i32, phase: &mut u8) -> u8
-    ensures { λ n. ⌜ Tells a (behind (now (zero .entry)) (now (power .entry)) (now (phase .entry))) n (behind (now (zero .exit)) (now (power .exit)) (now (phase .exit))) ⌝ }
+    ensures { λ n. ⌜ AnswerTold a (behind (now (zero .entry)) (now (power .entry)) (now (phase .entry))) n (behind (now (zero .exit)) (now (power .exit)) (now (phase .exit))) ⌝ }
 {
     match a {
         Answer::Refused(n) => n,
@@ -132,7 +132,7 @@ pub extern "C" fn topazfern_lay(
     lengths: &[u16],
     bytes: &mut usize,
 ) -> u8
-    ensures { λ n. ⌜ Laid (now (area .entry)) (now (kinds .entry)) (now (widths .entry)) (now (lengths .entry)) (record { refusal = n; bytes = now (bytes .exit) }) (now (area .exit)) ⌝ }
+    ensures { λ n. ⌜ ContentsLaid (now (area .entry)) (now (kinds .entry)) (now (widths .entry)) (now (lengths .entry)) (record { refusal = n; bytes = now (bytes .exit) }) (now (area .exit)) ⌝ }
 {
     let w = contents_lay::lay(area, kinds, widths, lengths);
     let n = w.bytes;

@@ -8,8 +8,8 @@ use lib.Dec.{eqb, ltb, leb}
 use lib.ListN.{length}
 use borrow.Author.Tests.{lt-ltb, le-ltb}
 use Rattle.state.specs.Number.{outside}
-use Rattle.contents.specs.Contents.{some}
-use Rattle.body_fault.specs.Body.{markOf, phaseOf, powerOf, turnOf, rowOf, countOf, maskOf, sideOf}
+use Rattle.contents.specs.Contents.{anyBelow}
+use Rattle.body_fault.specs.Body.{markOf, phaseOf, powerOf, turnOf, rowOf, tieCount, maskOf, sideOf}
 use Rattle.body_fault.specs.Body.{sizeFault, headFault, turnFault, rowFault, tieFault, bodyFault}
 
 module _ (n : ℕ) (bs : List ℕ) where
@@ -24,13 +24,13 @@ module _ (n : ℕ) (bs : List ℕ) where
     size-short h = rw (le-ltb 64 n a, lt-ltb (length bs) (5 + 9 * n) h)
 
     module _ (b : 5 + 9 * n ≤ length bs) where
-      pub size-ties : n < countOf n bs → true ≡ sizeFault n bs
+      pub size-ties : n < tieCount n bs → true ≡ sizeFault n bs
       unfolding sizeFault
-      size-ties h = rw (le-ltb 64 n a, le-ltb (length bs) (5 + 9 * n) b, lt-ltb n (countOf n bs) h)
+      size-ties h = rw (le-ltb 64 n a, le-ltb (length bs) (5 + 9 * n) b, lt-ltb n (tieCount n bs) h)
 
-      pub size-length : countOf n bs ≤ n → not (eqb (length bs) (5 + 9 * n + 9 * countOf n bs)) ≡ sizeFault n bs
+      pub size-length : tieCount n bs ≤ n → not (eqb (length bs) (5 + 9 * n + 9 * tieCount n bs)) ≡ sizeFault n bs
       unfolding sizeFault
-      size-length h = rw (le-ltb 64 n a, le-ltb (length bs) (5 + 9 * n) b, le-ltb n (countOf n bs) h)
+      size-length h = rw (le-ltb 64 n a, le-ltb (length bs) (5 + 9 * n) b, le-ltb n (tieCount n bs) h)
 
   -- ---- a row, that is m, tested
   pub row-tested : (v m : ℕ) (b : Bool) → m ≡ rowOf n bs v → b ≡ leb (2 ^ n) m → b ≡ rowFault n bs v
@@ -57,16 +57,16 @@ module _ (n : ℕ) (bs : List ℕ) where
     body-head h = rw (a, h)
 
     module _ (b : headFault bs ≡ false) where
-      pub body-turn : some n (turnFault bs) ≡ true → true ≡ bodyFault n bs
+      pub body-turn : anyBelow n (turnFault bs) ≡ true → true ≡ bodyFault n bs
       unfolding bodyFault
       body-turn h = rw (a, b, h)
 
-      module _ (c : some n (turnFault bs) ≡ false) where
-        pub body-row : some n (rowFault n bs) ≡ true → true ≡ bodyFault n bs
+      module _ (c : anyBelow n (turnFault bs) ≡ false) where
+        pub body-row : anyBelow n (rowFault n bs) ≡ true → true ≡ bodyFault n bs
         unfolding bodyFault
         body-row h = rw (a, b, c, h)
 
-        pub body-tie : some n (rowFault n bs) ≡ false → some (countOf n bs) (tieFault n bs) ≡ bodyFault n bs
+        pub body-tie : anyBelow n (rowFault n bs) ≡ false → anyBelow (tieCount n bs) (tieFault n bs) ≡ bodyFault n bs
         unfolding bodyFault
         body-tie h = rw (a, b, c, h)
 
@@ -95,7 +95,7 @@ module _ (bs : List ℕ) where
   turn-low v h = le-ltb 3 (turnOf bs v) h
 
 -- a loop that has come to the bound and found none
-pub none-found : (n i : ℕ) (f : ℕ → Bool) → i ≤ n → n ≤ i → some i f ≡ false → false ≡ some n f
+pub none-found : (n i : ℕ) (f : ℕ → Bool) → i ≤ n → n ≤ i → anyBelow i f ≡ false → false ≡ anyBelow n f
 none-found n i f h l e =
     let q : i ≡ n = omega arith in
-    sym e ∙ ap (λ (k : ℕ). some k f) q
+    sym e ∙ ap (λ (k : ℕ). anyBelow k f) q

@@ -9,9 +9,9 @@ use lib.ListN.{length}
 use borrow.Author.Tests.{le-ltb, lt-leb, eq-eqb, ltb-false, leb-false, eqb-true, not-false}
 use Rattle.state.specs.Number.{outside}
 use Rattle.state.specs.Normal.{InRange}
-use Rattle.contents.specs.Contents.{some}
+use Rattle.contents.specs.Contents.{anyBelow}
 use Rattle.contents.proofs.Laws.Some.{or-no-left, or-no-right, some-none, none}
-use Rattle.body_fault.specs.Body.{markOf, phaseOf, powerOf, turnOf, rowOf, countOf, maskOf, sideOf}
+use Rattle.body_fault.specs.Body.{markOf, phaseOf, powerOf, turnOf, rowOf, tieCount, maskOf, sideOf}
 use Rattle.body_fault.specs.Body.{sizeFault, headFault, turnFault, rowFault, tieFault, bodyFault}
 use Rattle.state.proofs.Laws.Range.{inside-range}
 use Rattle.body_fault.proofs.Laws.Signed.{not-outside}
@@ -19,28 +19,28 @@ use Rattle.body_fault.proofs.Laws.Signed.{not-outside}
 -- every field of a body of width n is in range
 pub record Fine (n : ℕ) (bs : List ℕ) : Type 0 where
   pub narrow : n ≤ 64
-  pub few : countOf n bs ≤ n
-  pub size : length bs ≡ 5 + 9 * n + 9 * countOf n bs
+  pub few : tieCount n bs ≤ n
+  pub size : length bs ≡ 5 + 9 * n + 9 * tieCount n bs
   pub mark : markOf bs < 2
   pub phase : phaseOf bs < 8
   pub power : InRange (powerOf bs)
   pub turn : (v : ℕ) → v < n → turnOf bs v < 4
   pub row : (v : ℕ) → v < n → rowOf n bs v < 2 ^ n
-  pub mask : (j : ℕ) → j < countOf n bs → maskOf n bs j < 2 ^ n
-  pub side : (j : ℕ) → j < countOf n bs → sideOf n bs j < 2
+  pub mask : (j : ℕ) → j < tieCount n bs → maskOf n bs j < 2 ^ n
+  pub side : (j : ℕ) → j < tieCount n bs → sideOf n bs j < 2
 
 module _ (n : ℕ) (bs : List ℕ) where
   -- ---- not refused: every field is in range
-  size-says : sizeFault n bs ≡ false → (n ≤ 64) × (countOf n bs ≤ n) × (length bs ≡ 5 + 9 * n + 9 * countOf n bs)
+  size-says : sizeFault n bs ≡ false → (n ≤ 64) × (tieCount n bs ≤ n) × (length bs ≡ 5 + 9 * n + 9 * tieCount n bs)
   unfolding sizeFault
   size-says h =
       let wide = ltb 64 n in
       let short = ltb (length bs) (5 + 9 * n) in
-      let many = ltb n (countOf n bs) in
-      let other = not (eqb (length bs) (5 + 9 * n + 9 * countOf n bs)) in
+      let many = ltb n (tieCount n bs) in
+      let other = not (eqb (length bs) (5 + 9 * n + 9 * tieCount n bs)) in
       let most = or-no-left (wide || short || many) other h in (
         ltb-false 64 n (or-no-left wide short (or-no-left (wide || short) many most)),
-        ltb-false n (countOf n bs) (or-no-right (wide || short) many most),
+        ltb-false n (tieCount n bs) (or-no-right (wide || short) many most),
         eqb-true _ _ (not-false _ (or-no-right (wide || short || many) other h)),
       )
 
@@ -73,12 +73,12 @@ module _ (n : ℕ) (bs : List ℕ) where
   pub fine : bodyFault n bs ≡ false → Fine n bs
   unfolding bodyFault
   fine h =
-      let k = countOf n bs in
+      let k = tieCount n bs in
       let size = sizeFault n bs in
       let head = headFault bs in
-      let turns = some n (turnFault bs) in
-      let rows = some n (rowFault n bs) in
-      let ties = some k (tieFault n bs) in
+      let turns = anyBelow n (turnFault bs) in
+      let rows = anyBelow n (rowFault n bs) in
+      let ties = anyBelow k (tieFault n bs) in
       let no-ties = or-no-right (size || head || turns || rows) ties h in
       let four = or-no-left (size || head || turns || rows) ties h in
       let three = or-no-left (size || head || turns) rows four in
@@ -104,7 +104,7 @@ module _ (n : ℕ) (bs : List ℕ) where
     size-good : sizeFault n bs ≡ false
     unfolding sizeFault
     size-good =
-        rw (le-ltb 64 n (f .narrow), le-ltb (length bs) (5 + 9 * n) (omega (arith, f .size)), le-ltb n (countOf n bs) (f .few), eq-eqb (length bs) (5 + 9 * n + 9 * countOf n bs) (f .size))
+        rw (le-ltb 64 n (f .narrow), le-ltb (length bs) (5 + 9 * n) (omega (arith, f .size)), le-ltb n (tieCount n bs) (f .few), eq-eqb (length bs) (5 + 9 * n + 9 * tieCount n bs) (f .size))
 
     head-good : headFault bs ≡ false
     unfolding headFault
@@ -118,11 +118,11 @@ module _ (n : ℕ) (bs : List ℕ) where
     unfolding rowFault
     row-good v l = lt-leb (2 ^ n) (rowOf n bs v) (f .row v l)
 
-    tie-good : (j : ℕ) → j < countOf n bs → tieFault n bs j ≡ false
+    tie-good : (j : ℕ) → j < tieCount n bs → tieFault n bs j ≡ false
     unfolding tieFault
     tie-good j l = rw (lt-leb (2 ^ n) (maskOf n bs j) (f .mask j l)) (le-ltb 1 (sideOf n bs j) (omega (arith, f .side j l)))
 
     pub not-refused : bodyFault n bs ≡ false
     unfolding bodyFault
     not-refused =
-        rw (size-good, head-good, none n (turnFault bs) turn-good, none n (rowFault n bs) row-good) (none (countOf n bs) (tieFault n bs) tie-good)
+        rw (size-good, head-good, none n (turnFault bs) turn-good, none n (rowFault n bs) row-good) (none (tieCount n bs) (tieFault n bs) tie-good)

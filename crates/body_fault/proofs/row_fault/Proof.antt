@@ -4,7 +4,7 @@ use mathlib.Core.Bool.{false}
 use Prim.Native.Nat.{_≤_, _-_}
 use native.Mathlib.Omega.{arith}
 use borrow.Author.Needs.{needs}
-use Rattle.contents.specs.Contents.{some}
+use Rattle.contents.specs.Contents.{anyBelow}
 use Rattle.contents.proofs.Laws.Some.{some-zero, some-next, some-here}
 use Rattle.body_fault.specs.Body.{rowFault}
 use Rattle.body_fault.proofs.Laws.Fault.{row-tested, none-found}
@@ -12,7 +12,7 @@ use Rattle.body_fault.proofs.row_fault.Statement.{statement}
 use Rattle.body_fault.proofs.row_fault.Tie as tie
 
 abbrev Inv-loop : tie.InvT-loop
-Inv-loop bs width v₀ v = (v ≤ width) × (some v (rowFault width bs) ≡ false)
+Inv-loop bs width v₀ v = (v ≤ width) × (anyBelow v (rowFault width bs) ≡ false)
 
 abbrev μ-loop : tie.MeasureT-loop
 μ-loop bs width v₀ v = width - v

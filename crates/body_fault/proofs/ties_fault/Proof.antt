@@ -4,15 +4,15 @@ use mathlib.Core.Bool.{false}
 use Prim.Native.Nat.{_≤_, _-_}
 use native.Mathlib.Omega.{arith}
 use borrow.Author.Needs.{needs}
-use Rattle.contents.specs.Contents.{some}
+use Rattle.contents.specs.Contents.{anyBelow}
 use Rattle.contents.proofs.Laws.Some.{some-zero, some-next, some-here}
-use Rattle.body_fault.specs.Body.{countOf, tieFault}
+use Rattle.body_fault.specs.Body.{tieCount, tieFault}
 use Rattle.body_fault.proofs.Laws.Fault.{none-found}
 use Rattle.body_fault.proofs.ties_fault.Statement.{statement}
 use Rattle.body_fault.proofs.ties_fault.Tie as tie
 
 abbrev Inv-loop : tie.InvT-loop
-Inv-loop bs width k j₀ j = (j ≤ k) × (some j (tieFault width bs) ≡ false)
+Inv-loop bs width k j₀ j = (j ≤ k) × (anyBelow j (tieFault width bs) ≡ false)
 
 abbrev μ-loop : tie.MeasureT-loop
 μ-loop bs width k j₀ j = k - j
@@ -30,7 +30,7 @@ returns : tie.Need-returns Inv-loop μ-loop
 returns c =
     let a = c .before .before .before .before .before .before .args in
     let j = c .before .before .before .loop .j in
-    sym (some-here (countOf (a .width) (a .bs .now)) j (tieFault (a .width) (a .bs .now)) (omega arith) (sym (c .before .tie-fault .ensures) ∙ c .if1 .taken))
+    sym (some-here (tieCount (a .width) (a .bs .now)) j (tieFault (a .width) (a .bs .now)) (omega arith) (sym (c .before .tie-fault .ensures) ∙ c .if1 .taken))
 
 add-j : tie.Need-add-j Inv-loop μ-loop
 add-j c = omega arith
@@ -48,7 +48,7 @@ returns-2 : tie.Need-returns-2 Inv-loop μ-loop
 returns-2 c =
     let a = c .before .before .before .before .args in
     let l = c .before .loop in
-    none-found (countOf (a .width) (a .bs .now)) (l .j) (tieFault (a .width) (a .bs .now)) (omega arith) (omega arith) (l .inv .1)
+    none-found (tieCount (a .width) (a .bs .now)) (l .j) (tieFault (a .width) (a .bs .now)) (omega arith) (omega arith) (l .inv .1)
 
 pub ties-fault-spec : {M : Type 1} → statement M
 ties-fault-spec =

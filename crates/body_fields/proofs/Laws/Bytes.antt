@@ -9,7 +9,8 @@ use lib.IntN.{ℤ}
 use lib.ListN.{length, take, drop, length-append}
 use Rattle.fields.specs.Bytes.{le, front}
 use Rattle.fields.proofs.Laws.Front.{length-le, lent-front, front-none}
-use Rattle.body_fields.specs.Fields.{joined, headBytes, tieBytes, fieldBytes, bodySize}
+use Rattle.body_fields.specs.Fields.{joined, headBytes, tieBytes, fieldBytes}
+use Rattle.body_fields.specs.Inner.Fields.{bodySize}
 
 pub length-joined : (w n : ℕ) (f : ℕ → List ℕ) → ((i : ℕ) → length (f i) ≡ w) → length (joined n f) ≡ w * n
 unfolding joined

@@ -7,7 +7,8 @@ use Rattle.fields.specs.Bytes.{le}
 use Rattle.fields.proofs.Laws.Front.{lent-front}
 use Rattle.form.specs.Form.{turnAt, rowAt}
 use Rattle.ties.specs.Ties.{maskAt, sideAt}
-use Rattle.body_fields.specs.Fields.{joined, tieBytes, fieldBytes, plainBytes}
+use Rattle.body_fields.specs.Fields.{joined, tieBytes, fieldBytes}
+use Rattle.body_fields.specs.Inner.Fields.{plainBytes}
 use Rattle.body_fields.proofs.Laws.Bytes.{toTurns, toRows, toCount, toTies, length-turns, length-rows, length-count, length-ties}
 use borrow.Author.Needs.{needs}
 use Rattle.body_fields.proofs.write_fields.Statement.{statement}

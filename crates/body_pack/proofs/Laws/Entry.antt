@@ -11,7 +11,8 @@ use Rattle.exact.proofs.Laws.Sum.{split}
 use Rattle.bits.specs.Mask.{bit, parity}
 use Rattle.bits.proofs.Laws.First.{first-bit}
 use Rattle.bits.proofs.Laws.Bit.{bit-lt, bit-above, bit-inside}
-use Rattle.form.specs.Form.{phase, phaseAt, turnAt, signAt}
+use Rattle.form.specs.Form.{phase, turnAt, signAt}
+use Rattle.form.specs.Inner.Phase.{phaseAt}
 use Rattle.ties.specs.Ties.{maskAt, held}
 use Rattle.state.specs.declared.State.{State}
 use Rattle.state.specs.Entry.{ties, entry}

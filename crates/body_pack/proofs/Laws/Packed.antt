@@ -12,8 +12,8 @@ use Rattle.exact.specs.Sum.{total}
 use Rattle.exact.proofs.Laws.Sum.{total-ext}
 use Rattle.form.specs.declared.Form.{Form}
 use Rattle.form.specs.Form.{quarter, turnAt, rowAt}
-use Rattle.form.specs.Upto.{Upto}
-use Rattle.form.specs.Move.{Changed}
+use Rattle.form.specs.Inner.Upto.{Upto}
+use Rattle.form.specs.Inner.Move.{Changed}
 use Rattle.form.proofs.Laws.Changed.{changed-unique}
 use Rattle.form.proofs.Laws.Upto.{upto-none, upto-more}
 use Rattle.ties.specs.declared.Ties.{Ties}

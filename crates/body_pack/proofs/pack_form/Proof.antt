@@ -3,7 +3,7 @@ use mathlib.Core.Path.{ap, _∙_}
 use Prim.Native.Nat.{ℕ, _≤_, _-_}
 use native.Mathlib.Omega.{arith}
 use borrow.Author.Needs.{needs}
-use Rattle.form.specs.Move.{Changed}
+use Rattle.form.specs.Inner.Move.{Changed}
 use Rattle.form.specs.Form.{turnAt, rowAt}
 use Rattle.form.proofs.Laws.Upto.{length-parts}
 use Rattle.form.proofs.Laws.Changed.{changed-none, changed-more}

@@ -9,7 +9,7 @@ use Rattle.form.specs.Form.{quarter}
 use Rattle.form.specs.declared.Form.{Form}
 use Rattle.ties.specs.declared.Ties.{Ties}
 use Rattle.state.specs.declared.State.{State}
-use Rattle.body_fault.specs.Body.{markOf, phaseOf, powerOf, rowOf, countOf, maskOf, sideOf}
+use Rattle.body_fault.specs.Body.{markOf, phaseOf, powerOf, rowOf, tieCount, maskOf, sideOf}
 use Rattle.body_read.specs.Table.{quarterOf, padded, formOf, tiesOf, tableOf}
 
 module _ (n : ℕ) (bs : List ℕ) where
@@ -18,7 +18,7 @@ module _ (n : ℕ) (bs : List ℕ) where
   unfolding formOf
   form-is c turns signs p t s = λ i. record { phase = record { 0 = p i }; turns = t i; signs = s i }
 
-  pub ties-are : (k : ℕ) (masks sides : List ℕ) → k ≡ countOf n bs → masks ≡ padded 0 (countOf n bs) (maskOf n bs) → sides ≡ padded 0 (countOf n bs) (sideOf n bs)
+  pub ties-are : (k : ℕ) (masks sides : List ℕ) → k ≡ tieCount n bs → masks ≡ padded 0 (tieCount n bs) (maskOf n bs) → sides ≡ padded 0 (tieCount n bs) (sideOf n bs)
       → _≡_ {A = Ties} (record { count = k; masks = masks; sides = sides }) (tiesOf n bs)
   unfolding tiesOf
   ties-are k masks sides c m s = λ i. record { count = c i; masks = m i; sides = s i }

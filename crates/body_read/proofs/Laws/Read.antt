@@ -1,18 +1,16 @@
 -- What reading a body answers on each way through the code, and that no second answer would do: by the truth of the tests.
-use mathlib.Core.Path.{_≡_, refl, sym, ap, _∙_}
+use mathlib.Core.Path.{_≡_, ap}
 use mathlib.Core.Bool.{Bool, true, false}
 use mathlib.Core.List.{List}
 use Prim.Native.Nat.{ℕ}
 use native.Mathlib.Omega.{arith}
-use lib.Dec.{eqb}
-use borrow.Author.Tests.{eqb-true, eqb-false}
 use Rattle.exact.specs.Refusal.{accepted, badBody, notNormal}
 use Rattle.state.specs.declared.State.{State}
 use Rattle.state.specs.Entry.{freshTable}
 use Rattle.state.specs.Normal.{Normal}
 use Rattle.body_fault.specs.Body.{bodyFault}
 use Rattle.body_read.specs.Table.{tableOf}
-use Rattle.body_read.specs.Read.{Reading, reading, Reads}
+use Rattle.body_read.specs.Read.{reading, Reads}
 
 -- two ways of one test
 either : {A : Type 0} {b : Bool} → b ≡ true → b ≡ false → A
@@ -43,20 +41,3 @@ module _ (n : ℕ) (bs : List ℕ) where
       sound = λ f j. ap (reading accepted) e;
       normal = λ z. k;
     }
-
-  -- ---- no second answer
-  module _ (r s : Reading) (a : Reads n bs r) (b : Reads n bs s) where
-    by-number : bodyFault n bs ≡ false → (e : Bool) → eqb (r .refusal) 0 ≡ e → r ≡ s
-    by-number h true e =
-        let k = a .normal (eqb-true (r .refusal) 0 e) in
-        a .sound h k ∙ sym (b .sound h k)
-    by-number h false e =
-        let k : Normal (tableOf n bs) → ⊥ = λ j. eqb-false (r .refusal) 0 e (ap (λ (x : Reading). x .refusal) (a .sound h j)) in
-        a .broken h k ∙ sym (b .broken h k)
-
-    by-fault : (f : Bool) → bodyFault n bs ≡ f → r ≡ s
-    by-fault true h = a .fault h ∙ sym (b .fault h)
-    by-fault false h = by-number h (eqb (r .refusal) 0) refl
-
-    pub one-reading : r ≡ s
-    one-reading = by-fault (bodyFault n bs) refl

@@ -16,7 +16,7 @@ use Rattle.state.specs.declared.State.{State}
 use Rattle.state.specs.Entry.{turn, row, tie, side, ties}
 use Rattle.state.specs.Normal.{Normal, InRange}
 use Rattle.state.proofs.Laws.First.{free-from, row-low, tie-low}
-use Rattle.body_fault.specs.Body.{markOf, phaseOf, powerOf, turnOf, rowOf, countOf, maskOf, sideOf}
+use Rattle.body_fault.specs.Body.{markOf, phaseOf, powerOf, turnOf, rowOf, tieCount, maskOf, sideOf}
 use Rattle.body_read.specs.Table.{quarterOf, padded, formOf, tiesOf, tableOf}
 use Rattle.body_read.specs.Read.{Reading, reading, Reads}
 use Rattle.body_read.proofs.Laws.Padded.{length-padded, padded-in, padded-out}
@@ -43,7 +43,7 @@ pub record States (n : ℕ) (bs : List ℕ) (t : State) : Type 0 where
   pub phase : t .form .phase .0 ≡ phaseOf bs
   pub turn : (v : ℕ) → v < n → turn t v ≡ turnOf bs v
   pub row : (v : ℕ) → v < n → row t v ≡ rowOf n bs v
-  pub count : ties t ≡ countOf n bs
+  pub count : ties t ≡ tieCount n bs
   pub tie : (j : ℕ) → j < ties t → tie t j ≡ maskOf n bs j
   pub side : (j : ℕ) → j < ties t → side t j ≡ sideOf n bs j
 
@@ -57,17 +57,17 @@ module _ (n : ℕ) (bs : List ℕ) (t : State) (m : Normal t) (s : States n bs t
   unfolding rowAt
   signs-are = padded-is 0 n (rowOf n bs) (t .form .signs) (m .proper .signs-are) (s .row) (λ v h. m .free-row v (free-from t m n (s .live) v h))
 
-  masks-are : t .ties .masks ≡ padded 0 (countOf n bs) (maskOf n bs)
+  masks-are : t .ties .masks ≡ padded 0 (tieCount n bs) (maskOf n bs)
   unfolding maskAt
   masks-are =
-      padded-is 0 (countOf n bs) (maskOf n bs) (t .ties .masks) (m .reduced .masks-are)
+      padded-is 0 (tieCount n bs) (maskOf n bs) (t .ties .masks) (m .reduced .masks-are)
       (λ j h. s .tie j (omega (arith, s .count)))
       (λ j h. m .reduced .unused-mask j (omega (arith, s .count)))
 
-  sides-are : t .ties .sides ≡ padded 0 (countOf n bs) (sideOf n bs)
+  sides-are : t .ties .sides ≡ padded 0 (tieCount n bs) (sideOf n bs)
   unfolding sideAt
   sides-are =
-      padded-is 0 (countOf n bs) (sideOf n bs) (t .ties .sides) (m .reduced .sides-are)
+      padded-is 0 (tieCount n bs) (sideOf n bs) (t .ties .sides) (m .reduced .sides-are)
       (λ j h. s .side j (omega (arith, s .count)))
       (λ j h. m .reduced .unused-side j (omega (arith, s .count)))
 

@@ -13,9 +13,10 @@ use Rattle.exact.proofs.Laws.Sum.{split}
 use Rattle.bits.proofs.Laws.First.{first-bit, first-above}
 use Rattle.form.specs.Form.{quarter, turnAt, rowAt}
 use Rattle.ties.specs.Ties.{maskAt, sideAt, leadAt}
-use Rattle.state.specs.Entry.{turn, row, tie, side, lead, Live, Free}
+use Rattle.state.specs.Entry.{turn, row, tie, side, lead, Free}
+use Rattle.state.specs.Inner.Entry.{Live}
 use Rattle.state.specs.Normal.{InRange}
-use Rattle.body_fault.specs.Body.{phaseOf, powerOf, turnOf, rowOf, countOf, maskOf, sideOf}
+use Rattle.body_fault.specs.Body.{phaseOf, powerOf, turnOf, rowOf, tieCount, maskOf, sideOf}
 use Rattle.body_read.specs.Table.{quarterOf, formOf, tiesOf, tableOf}
 use Rattle.body_read.proofs.Laws.Padded.{length-padded, padded-in, padded-out}
 use Rattle.body_fault.proofs.Laws.Fine.{Fine}
@@ -58,13 +59,13 @@ module _ (n : ℕ) (bs : List ℕ) where
   unfolding tableOf formOf rowAt
   row-beyond v h = padded-out 0 n (rowOf n bs) v h
 
-  pub tie-beyond : (j : ℕ) → countOf n bs ≤ j → tie (tableOf n bs) j ≡ 0
+  pub tie-beyond : (j : ℕ) → tieCount n bs ≤ j → tie (tableOf n bs) j ≡ 0
   unfolding tableOf tiesOf maskAt
-  tie-beyond j h = padded-out 0 (countOf n bs) (maskOf n bs) j h
+  tie-beyond j h = padded-out 0 (tieCount n bs) (maskOf n bs) j h
 
-  pub side-beyond : (j : ℕ) → countOf n bs ≤ j → side (tableOf n bs) j ≡ 0
+  pub side-beyond : (j : ℕ) → tieCount n bs ≤ j → side (tableOf n bs) j ≡ 0
   unfolding tableOf tiesOf sideAt
-  side-beyond j h = padded-out 0 (countOf n bs) (sideOf n bs) j h
+  side-beyond j h = padded-out 0 (tieCount n bs) (sideOf n bs) j h
 
   -- ---- of a body that is not refused by 11: the bytes' numbers
   module _ (f : Fine n bs) where
@@ -76,15 +77,15 @@ module _ (n : ℕ) (bs : List ℕ) where
     unfolding tableOf formOf rowAt
     row-is v h = padded-in 0 n (rowOf n bs) v h (omega (arith, f .narrow))
 
-    pub tie-is : (j : ℕ) → j < countOf n bs → tie (tableOf n bs) j ≡ maskOf n bs j
+    pub tie-is : (j : ℕ) → j < tieCount n bs → tie (tableOf n bs) j ≡ maskOf n bs j
     unfolding tableOf tiesOf maskAt
-    tie-is j h = padded-in 0 (countOf n bs) (maskOf n bs) j h (omega (arith, f .narrow, f .few))
+    tie-is j h = padded-in 0 (tieCount n bs) (maskOf n bs) j h (omega (arith, f .narrow, f .few))
 
-    pub side-is : (j : ℕ) → j < countOf n bs → side (tableOf n bs) j ≡ sideOf n bs j
+    pub side-is : (j : ℕ) → j < tieCount n bs → side (tableOf n bs) j ≡ sideOf n bs j
     unfolding tableOf tiesOf sideAt
-    side-is j h = padded-in 0 (countOf n bs) (sideOf n bs) j h (omega (arith, f .narrow, f .few))
+    side-is j h = padded-in 0 (tieCount n bs) (sideOf n bs) j h (omega (arith, f .narrow, f .few))
 
-    pub lead-is : (j : ℕ) → j < countOf n bs → lead (tableOf n bs) j ≡ trailingZeros 64 (maskOf n bs j)
+    pub lead-is : (j : ℕ) → j < tieCount n bs → lead (tableOf n bs) j ≡ trailingZeros 64 (maskOf n bs j)
     unfolding leadAt
     lead-is j h = ap (trailingZeros 64) (tie-is j h)
 
@@ -118,6 +119,6 @@ module _ (n : ℕ) (bs : List ℕ) where
     pub side-range : (j : ℕ) → side (tableOf n bs) j < 2
     side-range j =
         ⊎-elim
-        (λ (h : j < countOf n bs). omega (arith, side-is j h, f .side j h))
-        (λ (h : countOf n bs ≤ j). omega (arith, side-beyond j h))
-        (split j (countOf n bs))
+        (λ (h : j < tieCount n bs). omega (arith, side-is j h, f .side j h))
+        (λ (h : tieCount n bs ≤ j). omega (arith, side-beyond j h))
+        (split j (tieCount n bs))

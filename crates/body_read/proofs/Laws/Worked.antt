@@ -6,7 +6,7 @@ use Prim.Native.Nat.{ℕ}
 use lib.IntN.{negsuc}
 use lib.ListN.{set}
 use Rattle.fields.specs.Bytes.{number}
-use Rattle.contents.specs.Contents.{some}
+use Rattle.contents.specs.Contents.{anyBelow}
 use Rattle.form.specs.Form.{turnAt, rowAt}
 use Rattle.ties.specs.Ties.{maskAt, sideAt}
 use Rattle.body_fault.specs.Body.{bodyFault, sizeFault, headFault, turnFault, rowFault, tieFault}
@@ -31,19 +31,19 @@ powered lo hi = set (set body 2 lo) 3 hi
 
 -- the body itself, and with s = 2,000 and −2,000
 good : map (bodyFault 2) (body ∷ powered 0xD0 0x07 ∷ powered 0x30 0xF8 ∷ []) ≡ false ∷ false ∷ false ∷ []
-unfolding bodyFault sizeFault headFault turnFault rowFault tieFault some number signed16
+unfolding bodyFault sizeFault headFault turnFault rowFault tieFault anyBelow number signed16
 good = refl
 
 -- s = 2,001 and −2,001; a zero mark of 2, c = 8, a turn of 4, bit 2 in a row, three ties, no tie but the bytes of one, bit 2 in a mask, r = 2
 bad : map (bodyFault 2)
     (powered 0xD1 0x07 ∷ powered 0x2F 0xF8 ∷ set body 0 2 ∷ set body 1 8 ∷ set body 5 4 ∷ set body 14 5 ∷ set body 22 3 ∷ set body 22 0 ∷ set body 23 7 ∷ set body 31 2 ∷ [])
     ≡ true ∷ true ∷ true ∷ true ∷ true ∷ true ∷ true ∷ true ∷ true ∷ true ∷ []
-unfolding bodyFault sizeFault headFault turnFault rowFault tieFault some number signed16
+unfolding bodyFault sizeFault headFault turnFault rowFault tieFault anyBelow number signed16
 bad = refl
 
 -- another width, and no bytes at all
 wide : bodyFault 1 body ∷ bodyFault 3 body ∷ bodyFault 65 body ∷ bodyFault 0 [] ∷ [] ≡ true ∷ true ∷ true ∷ true ∷ []
-unfolding bodyFault sizeFault headFault turnFault rowFault tieFault some number signed16
+unfolding bodyFault sizeFault headFault turnFault rowFault tieFault anyBelow number signed16
 wide = refl
 
 power : tableOf 2 body .power .0 ≡ negsuc 2

@@ -5,7 +5,7 @@ use Prim.Native.Nat.{ℕ, _≤_, _-_}
 use native.Mathlib.Omega.{arith}
 use lib.ListN.{set}
 use borrow.Author.Needs.{needs}
-use Rattle.body_fault.specs.Body.{countOf, maskOf}
+use Rattle.body_fault.specs.Body.{tieCount, maskOf}
 use Rattle.body_read.specs.Table.{padded}
 use Rattle.body_read.proofs.Laws.Padded.{padded-none, padded-next, padded-end}
 use Rattle.body_read.proofs.masks_of.Statement.{statement}
@@ -54,7 +54,7 @@ returns : tie.Need-returns Inv-loop μ-loop
 returns c =
     let a = c .before .before .before .before .args in
     let l = c .before .loop in
-    l .inv .1 ∙ padded-end 0 (maskOf (a .width) (a .bs .now)) (countOf (a .width) (a .bs .now)) (l .j) (omega arith) (omega arith)
+    l .inv .1 ∙ padded-end 0 (maskOf (a .width) (a .bs .now)) (tieCount (a .width) (a .bs .now)) (l .j) (omega arith) (omega arith)
 
 pub masks-of-spec : {M : Type 1} → statement M
 masks-of-spec =

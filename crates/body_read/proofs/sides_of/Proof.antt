@@ -5,7 +5,7 @@ use Prim.Native.Nat.{ℕ, _≤_, _-_}
 use native.Mathlib.Omega.{arith}
 use lib.ListN.{set}
 use borrow.Author.Needs.{needs}
-use Rattle.body_fault.specs.Body.{countOf, sideOf}
+use Rattle.body_fault.specs.Body.{tieCount, sideOf}
 use Rattle.body_read.specs.Table.{padded}
 use Rattle.body_read.proofs.Laws.Padded.{padded-none, padded-next, padded-end}
 use Rattle.body_read.proofs.sides_of.Statement.{statement}
@@ -51,7 +51,7 @@ returns : tie.Need-returns Inv-loop μ-loop
 returns c =
     let a = c .before .before .before .before .args in
     let l = c .before .loop in
-    l .inv .1 ∙ padded-end 0 (sideOf (a .width) (a .bs .now)) (countOf (a .width) (a .bs .now)) (l .j) (omega arith) (omega arith)
+    l .inv .1 ∙ padded-end 0 (sideOf (a .width) (a .bs .now)) (tieCount (a .width) (a .bs .now)) (l .j) (omega arith) (omega arith)
 
 pub sides-of-spec : {M : Type 1} → statement M
 sides-of-spec =

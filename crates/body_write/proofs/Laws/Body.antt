@@ -12,7 +12,8 @@ use Rattle.state.specs.declared.State.{State}
 use Rattle.state.specs.Entry.{ties}
 use Rattle.state.specs.Normal.{Normal}
 use Rattle.body_pack.specs.Packed.{packedForm, packedTies, packedTable}
-use Rattle.body_fields.specs.Fields.{headBytes, tieBytes, fieldBytes, bodySize, plainBytes, Fitting}
+use Rattle.body_fields.specs.Fields.{headBytes, tieBytes, fieldBytes}
+use Rattle.body_fields.specs.Inner.Fields.{bodySize, plainBytes, Fitting}
 use Rattle.body_write.specs.Body.{bodyBytes}
 use Rattle.body_fields.proofs.Laws.Bytes.{joined-ext, length-fields}
 use Rattle.body_pack.proofs.Laws.Read.{ones-small, turn-at, row-at, mask-at, side-at}

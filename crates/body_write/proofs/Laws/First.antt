@@ -12,7 +12,8 @@ use Rattle.bits.proofs.Laws.Parity.{ones-total}
 use Rattle.state.specs.declared.State.{State}
 use Rattle.state.specs.Entry.{turn, row, tie, side, ties}
 use Rattle.body_pack.specs.Slot.{rank, slotAt, packedMask}
-use Rattle.body_fields.specs.Fields.{fieldBytes, plainBytes}
+use Rattle.body_fields.specs.Fields.{fieldBytes}
+use Rattle.body_fields.specs.Inner.Fields.{plainBytes}
 use Rattle.body_write.specs.Body.{bodyBytes}
 use Rattle.body_pack.proofs.Laws.Slot.{rank-none, rank-more, slot-rank}
 use Rattle.body_pack.proofs.Laws.Mask.{packed-bit, packed-lt}

@@ -6,7 +6,7 @@ use native.Mathlib.Omega.{arith}
 use lib.Count.{ones}
 use Rattle.exact.proofs.Laws.Sum.{split}
 use Rattle.bits.proofs.Laws.Packed as mask
-use Rattle.form.specs.Move.{Changed}
+use Rattle.form.specs.Inner.Move.{Changed}
 use Rattle.form.specs.Form.{quarter, turnAt, rowAt}
 use Rattle.form.proofs.Laws.Beyond.{turn-none, row-none}
 use Rattle.ties.specs.Ties.{maskAt}
@@ -17,7 +17,7 @@ use Rattle.state.specs.Normal.{Normal}
 use Rattle.state.proofs.Laws.First.{free-from, row-low, tie-low}
 use Rattle.body_pack.specs.Slot.{slotAt, packedMask}
 use Rattle.body_pack.specs.Packed.{packedTies, packedTable}
-use Rattle.body_fields.specs.Fields.{plainBytes}
+use Rattle.body_fields.specs.Inner.Fields.{plainBytes}
 use Rattle.body_write.specs.Body.{bodyBytes}
 use Rattle.body_pack.proofs.Laws.Packed.{turnPacked, rowPacked, form-done}
 use Rattle.body_pack.proofs.Laws.Read.{mask-at, side-at, slot-beyond}

@@ -1,14 +1,12 @@
 -- The writer of a body: what it answers and leaves in each of its ways out, and that no second answer and area meet its contract.
 use mathlib.Core.List.{List, [], _∷_}
-use mathlib.Core.Logic.{_≢_, _⊎_, inl, inr, ⊎-elim}
-use mathlib.Core.Path.{_≡_, refl, sym, ap, _∙_}
+use mathlib.Core.Path.{_≡_, refl, sym, ap}
 use Prim.Native.Nat.{ℕ, _+_, _≤_, _<_}
 use native.Mathlib.Omega.{arith}
 use borrow.Author.Tests.{lt-ltb, le-ltb}
 use lib.ListN.{length}
 use mathlib.Core.Bool.{Bool}
 use Rattle.exact.specs.Refusal.{accepted, notNormal, areaShort, first, _gives_}
-use Rattle.bits.proofs.Laws.Bit.{same-or}
 use Rattle.fields.specs.Bytes.{over}
 use Rattle.state.specs.declared.State.{State}
 use Rattle.state.specs.Normal.{Normal}
@@ -63,27 +61,3 @@ module _ (t : State) (xs : List ℕ) (start : ℕ) where
   -- a start at the area's end or beyond it is refused: there is always something to write
   pub start-beyond : length xs ≤ start → bodyNumber (length xs) start t ≡ areaShort
   start-beyond h = sym (number-short (omega (arith, length-body t)))
-
-  -- no second answer and area
-  pub written-one : (r s : Written) (ys zs : List ℕ) → BodyWritten t xs start r ys → BodyWritten t xs start s zs → (r ≡ s) × (ys ≡ zs)
-  written-one r s ys zs R S = go (same-or (r .refusal) accepted)
-    where
-      number : r .refusal ≡ s .refusal
-      number =
-          ⊎-elim
-          (λ (e : r .refusal ≡ s .refusal). e)
-          (λ (ne : r .refusal ≢ s .refusal).
-          let never : Normal t → ⊥ = λ N. ne (R .sound N ∙ sym (S .sound N)) in
-          absurd (ne (R .broken never ∙ sym (S .broken never))))
-          (same-or (r .refusal) (s .refusal))
-
-      both : r .bytes ≡ s .bytes → r ≡ s
-      both e = λ i. record { refusal = number i; bytes = e i }
-
-      go : (r .refusal ≡ accepted) ⊎ (r .refusal ≢ accepted) → (r ≡ s) × (ys ≡ zs)
-      go (inl e) =
-          let f : s .refusal ≡ accepted = sym number ∙ e in
-          (both (R .count e ∙ sym (S .count f)), R .written e ∙ sym (S .written f))
-      go (inr ne) =
-          let nf : s .refusal ≢ accepted = λ f. ne (number ∙ f) in
-          (both (R .nothing ne ∙ sym (S .nothing nf)), R .kept ne ∙ sym (S .kept nf))

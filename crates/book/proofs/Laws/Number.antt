@@ -10,12 +10,12 @@ use Rattle.bits.proofs.Laws.Bit.{same-or}
 use Rattle.contents.specs.declared.Entry.{Entry}
 use Rattle.contents.specs.Contents.{countOf, kindOf, widthOf, entryOf, contentsNumber}
 use Rattle.contents.proofs.Laws.Good.{good}
-use Rattle.book.specs.Book.{bodyBytes, circuitBodyNumber, TableNumber, BodyNumber, Clear, BookNumber}
+use Rattle.book.specs.Book.{bytesOf, circuitBodyNumber, TableNumber, BodyNumber, Clear, BookNumber}
 use Rattle.book.specs.Read.{Body, CircuitAnswer, TableAnswer, BodyAnswer}
 
 -- ---- the part of the book that is lent
-part-law : (bs : List ℕ) (j : ℕ) (e : Entry) → e ≡ entryOf bs j → take (e .start + e .length - e .start) (drop (e .start) bs) ≡ bodyBytes bs j
-unfolding bodyBytes
+part-law : (bs : List ℕ) (j : ℕ) (e : Entry) → e ≡ entryOf bs j → take (e .start + e .length - e .start) (drop (e .start) bs) ≡ bytesOf bs j
+unfolding bytesOf
 part-law bs j e is =
     let q : e .start + e .length - e .start ≡ e .length = omega arith in
     ap (λ (k : ℕ). take k (drop (e .start) bs)) q ∙ ap (λ (x : Entry). take (x .length) (drop (x .start) bs)) is
@@ -29,9 +29,9 @@ answer-table kind n bs r k a = record { circuit = λ q. absurd (k q); table = λ
 
 -- the answer to the part of an entry, as the book's
 pub answer-at : (bs : List ℕ) (j : ℕ) (e : Entry) (r : Body) → e ≡ entryOf bs j → BodyAnswer (e .kind) (e .width) (take (e .start + e .length - e .start) (drop (e .start) bs)) r
-    → BodyAnswer (kindOf bs j) (widthOf bs j) (bodyBytes bs j) r
+    → BodyAnswer (kindOf bs j) (widthOf bs j) (bytesOf bs j) r
 answer-at bs j e r is a =
-    subst (λ (x : Entry). BodyAnswer (x .kind) (x .width) (bodyBytes bs j) r) is
+    subst (λ (x : Entry). BodyAnswer (x .kind) (x .width) (bytesOf bs j) r) is
     (subst (λ (l : List ℕ). BodyAnswer (e .kind) (e .width) l r) (part-law bs j e is) a)
 
 -- ---- the number of a body
@@ -44,7 +44,7 @@ number-circuit bs j e k is one a = record {
 pub number-table : (bs : List ℕ) (j : ℕ) (e : Entry) (k : ℕ) → e ≡ entryOf bs j → e .kind ≢ 1 → TableNumber (e .width) (take (e .start + e .length - e .start) (drop (e .start) bs)) k → BodyNumber bs j k
 number-table bs j e k is not a = record {
   circuit = λ c. absurd (not (ap (λ (x : Entry). x .kind) is ∙ c));
-  table = λ c. subst (λ (x : Entry). TableNumber (x .width) (bodyBytes bs j) k) is (subst (λ (l : List ℕ). TableNumber (e .width) l k) (part-law bs j e is) a);
+  table = λ c. subst (λ (x : Entry). TableNumber (x .width) (bytesOf bs j) k) is (subst (λ (l : List ℕ). TableNumber (e .width) l k) (part-law bs j e is) a);
 }
 
 -- ---- the number of the book

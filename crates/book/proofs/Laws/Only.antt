@@ -10,13 +10,13 @@ use Rattle.exact.specs.Answer.{amountOf}
 use Rattle.exact.proofs.Laws.Sum.{split}
 use Rattle.bits.proofs.Laws.Bit.{same-or}
 use Rattle.state.specs.Normal.{Normal}
-use Rattle.circuit.proofs.Laws.Amplitude.{no-second}
+use Rattle.circuit.proofs.Laws.Only.{one-amplitude}
 use Rattle.contents.specs.Contents.{countOf, widthOf, entryOf, contentsNumber}
 use Rattle.contents.proofs.Laws.Good.{good}
 use Rattle.body_fault.specs.Body.{bodyFault}
 use Rattle.body_read.specs.Table.{tableOf}
-use Rattle.book.specs.Book.{inputOf, outputOf, gatesOf, bodyBytes, circuitBodyNumber, TableNumber, BodyNumber, Clear, Refuses, BodiesNumber, BookNumber}
-use Rattle.book.specs.Read.{Body, saidNumber, saidAmount, refusal, amplitude, CircuitAnswer, TableAnswer, ReadsBody}
+use Rattle.book.specs.Book.{inputOf, outputOf, gatesOf, bytesOf, circuitBodyNumber, TableNumber, BodyNumber, Clear, Refuses, BodiesNumber, BookNumber}
+use Rattle.book.specs.Read.{Body, saidNumber, saidAmount, refusal, circuitBody, CircuitAnswer, TableAnswer, ReadsBody}
 use Rattle.book.proofs.Laws.Number.{contents-good}
 
 -- ---- a table's body
@@ -46,15 +46,15 @@ module _ (n : ℕ) (bs : List ℕ) where
     where
       given : circuitBodyNumber n bs ≡ 0 → r ≡ s
       given z =
-          let e = no-second n (inputOf bs) (outputOf bs) (gatesOf bs) (Is (saidAmount (r .said))) (Is (saidAmount (s .said))) (R .value z) (S .value z) in
-          R .given z ∙ ap amplitude (ap amountOf e) ∙ sym (S .given z)
+          let e = one-amplitude n (inputOf bs) (outputOf bs) (gatesOf bs) (Is (saidAmount (r .said))) (Is (saidAmount (s .said))) (R .value z) (S .value z) in
+          R .given z ∙ ap circuitBody (ap amountOf e) ∙ sym (S .given z)
 
 module _ (bs : List ℕ) where
   -- ---- a body's number, where the contents are good
   module _ (z : contentsNumber bs ≡ 0) where
     pub body-number : (j k m : ℕ) → j < countOf bs → BodyNumber bs j k → BodyNumber bs j m → k ≡ m
     body-number j k m h K M =
-        ⊎-elim (λ c. K .circuit c ∙ sym (M .circuit c)) (λ c. table-number (widthOf bs j) (bodyBytes bs j) k m (K .table c) (M .table c))
+        ⊎-elim (λ c. K .circuit c ∙ sym (M .circuit c)) (λ c. table-number (widthOf bs j) (bytesOf bs j) k m (K .table c) (M .table c))
         (good bs z .body j h (entryOf bs j) refl .kind)
 
     -- a body that is refused is not among those that are clear
@@ -89,8 +89,8 @@ module _ (bs : List ℕ) where
     by-kind z h =
         let a = R .answer z h in
         let b = S .answer (sym same ∙ z) h in
-        ⊎-elim (λ c. circuit-answer (widthOf bs j) (bodyBytes bs j) r s (a .circuit c) (b .circuit c))
-        (λ c. table-answer (widthOf bs j) (bodyBytes bs j) r s (a .table c) (b .table c))
+        ⊎-elim (λ c. circuit-answer (widthOf bs j) (bytesOf bs j) r s (a .circuit c) (b .circuit c))
+        (λ c. table-answer (widthOf bs j) (bytesOf bs j) r s (a .table c) (b .table c))
         (good bs (contents-good bs (R .number) (R .tested) z) .body j h (entryOf bs j) refl .kind)
 
     accepted-only : R .number ≡ 0 → r ≡ s

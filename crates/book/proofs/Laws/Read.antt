@@ -5,7 +5,7 @@ use mathlib.Core.Path.{_≡_}
 use Prim.Native.Nat.{ℕ, _≤_, _<_}
 use native.Mathlib.Omega.{arith}
 use Rattle.contents.specs.Contents.{countOf, kindOf, widthOf}
-use Rattle.book.specs.Book.{bodyBytes, BookNumber}
+use Rattle.book.specs.Book.{bytesOf, BookNumber}
 use Rattle.book.specs.Read.{Body, refusal, BodyAnswer, ReadsBody}
 
 module _ (bs : List ℕ) (j k : ℕ) (r : Body) (B : BookNumber bs k) where
@@ -28,7 +28,7 @@ module _ (bs : List ℕ) (j k : ℕ) (r : Body) (B : BookNumber bs k) where
       answer = λ y l. absurd (omega (arith, h, l));
     }
 
-    pub reads-answer : j < countOf bs → BodyAnswer (kindOf bs j) (widthOf bs j) (bodyBytes bs j) r → ReadsBody bs j r
+    pub reads-answer : j < countOf bs → BodyAnswer (kindOf bs j) (widthOf bs j) (bytesOf bs j) r → ReadsBody bs j r
     reads-answer h a = record {
       number = k;
       tested = B;

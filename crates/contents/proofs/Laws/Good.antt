@@ -9,7 +9,7 @@ use native.Mathlib.Numerals.{add-one}
 use lib.Dec.{eqb, ltb}
 use lib.ListN.{length}
 use borrow.Author.Tests.{eqb-true, ltb-false, not-false}
-use Rattle.contents.specs.Contents.{Entry, countOf, kindOf, lengthOf, startOf, entryOf, bodyStart, some, headerFault, goodKind, entryFault, contentsFault, contentsNumber}
+use Rattle.contents.specs.Contents.{Entry, countOf, kindOf, lengthOf, startOf, entryOf, bodyStart, anyBelow, headerFault, goodKind, entryFault, contentsFault, contentsNumber}
 use Rattle.contents.proofs.Laws.Some.{or-no-left, or-no-right, some-none}
 use Rattle.contents.proofs.Laws.Entry.{fault-none, kind-cases}
 use Rattle.contents.proofs.Laws.Header.{header-small}
@@ -56,11 +56,11 @@ module _ (bs : List ℕ) (z : contentsNumber bs ≡ 0) where
       go true e = absurd (let n : 10 ≡ contentsNumber bs = number-ten bs good-header e in omega arith)
       go false e = refl
 
-  unrefused : some (countOf bs) (entryFault bs) ≡ false
+  unrefused : anyBelow (countOf bs) (entryFault bs) ≡ false
   unfolding contentsFault
   unrefused =
       let short = ltb (length bs) (4 + 8 * countOf bs) in
-      let one = some (countOf bs) (entryFault bs) in
+      let one = anyBelow (countOf bs) (entryFault bs) in
       or-no-right short one (or-no-left (short || one) (not (eqb (bodyStart bs (countOf bs)) (length bs))) good-contents)
 
   clear : (j : ℕ) → j < countOf bs → (goodKind (kindOf bs j) ≡ true) × (startOf bs j ≡ bodyStart bs j) × (startOf bs j + lengthOf bs j ≤ length bs)
@@ -69,7 +69,7 @@ module _ (bs : List ℕ) (z : contentsNumber bs ≡ 0) where
   good-last : bodyStart bs (countOf bs) ≡ length bs
   unfolding contentsFault
   good-last =
-      let some-fault = ltb (length bs) (4 + 8 * countOf bs) || some (countOf bs) (entryFault bs) in
+      let some-fault = ltb (length bs) (4 + 8 * countOf bs) || anyBelow (countOf bs) (entryFault bs) in
       let end = eqb (bodyStart bs (countOf bs)) (length bs) in
       eqb-true (bodyStart bs (countOf bs)) (length bs) (not-false end (or-no-right some-fault (not end) good-contents))
 
@@ -77,7 +77,7 @@ module _ (bs : List ℕ) (z : contentsNumber bs ≡ 0) where
   unfolding contentsFault
   good-long =
       let short = ltb (length bs) (4 + 8 * countOf bs) in
-      let one = some (countOf bs) (entryFault bs) in
+      let one = anyBelow (countOf bs) (entryFault bs) in
       let end = eqb (bodyStart bs (countOf bs)) (length bs) in
       ltb-false (length bs) (4 + 8 * countOf bs) (or-no-left short one (or-no-left (short || one) (not end) good-contents))
 

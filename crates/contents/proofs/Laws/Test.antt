@@ -9,7 +9,7 @@ use lib.Dec.{eqb, ltb}
 use lib.ListN.{length}
 use borrow.Author.Tests.{lt-ltb, le-ltb}
 use Rattle.exact.specs.Sum.{total}
-use Rattle.contents.specs.Contents.{Entry, countOf, lengthOf, entryOf, bodyStart, some, headerFault, faultAt, entryFault, contentsFault, contentsNumber}
+use Rattle.contents.specs.Contents.{Entry, countOf, lengthOf, entryOf, bodyStart, anyBelow, headerFault, faultAt, entryFault, contentsFault, contentsNumber}
 use Rattle.contents.proofs.Laws.Some.{some-here}
 
 -- ---- where bodies start
@@ -47,10 +47,10 @@ module _ (bs : List ℕ) where
   pub contents-entry : (j : ℕ) → j < countOf bs → entryFault bs j ≡ true → contentsFault bs ≡ true
   unfolding contentsFault
   contents-entry j h e =
-      or-mid (ltb (length bs) (4 + 8 * countOf bs)) (some (countOf bs) (entryFault bs)) (not (eqb (bodyStart bs (countOf bs)) (length bs)))
+      or-mid (ltb (length bs) (4 + 8 * countOf bs)) (anyBelow (countOf bs) (entryFault bs)) (not (eqb (bodyStart bs (countOf bs)) (length bs)))
       (some-here (countOf bs) j (entryFault bs) h e)
 
-  pub contents-last : (t : Bool) → 4 + 8 * countOf bs ≤ length bs → some (countOf bs) (entryFault bs) ≡ false → eqb (bodyStart bs (countOf bs)) (length bs) ≡ t → contentsFault bs ≡ not t
+  pub contents-last : (t : Bool) → 4 + 8 * countOf bs ≤ length bs → anyBelow (countOf bs) (entryFault bs) ≡ false → eqb (bodyStart bs (countOf bs)) (length bs) ≡ t → contentsFault bs ≡ not t
   unfolding contentsFault
   contents-last t h s e = rw (le-ltb (length bs) (4 + 8 * countOf bs) h, s, e)
 
@@ -63,9 +63,9 @@ module _ (bs : List ℕ) (j at : ℕ) (e : Entry) (is : e ≡ entryOf bs j) (fro
   turn-next = ap₂ (λ (y : ℕ) (x : Entry). y + x .length) from is ∙ sym (start-next bs j)
 
 -- after the loop: no entry is refused, and the last end decides
-pub test-ends : (bs : List ℕ) (n at j : ℕ) → n ≡ countOf bs → 4 + 8 * n ≤ length bs → j ≤ n → n ≤ j → at ≡ bodyStart bs j → some j (entryFault bs) ≡ false
+pub test-ends : (bs : List ℕ) (n at j : ℕ) → n ≡ countOf bs → 4 + 8 * n ≤ length bs → j ≤ n → n ≤ j → at ≡ bodyStart bs j → anyBelow j (entryFault bs) ≡ false
     → contentsFault bs ≡ not (eqb at (length bs))
 test-ends bs n at j c h l m e s =
     let q : j ≡ countOf bs = omega arith in
-    contents-last bs (eqb at (length bs)) (omega arith) (ap (λ (k : ℕ). some k (entryFault bs)) (sym q) ∙ s)
+    contents-last bs (eqb at (length bs)) (omega arith) (ap (λ (k : ℕ). anyBelow k (entryFault bs)) (sym q) ∙ s)
     (ap (λ (k : ℕ). eqb k (length bs)) (sym (e ∙ ap (bodyStart bs) q)))

@@ -6,7 +6,7 @@ use borrow.Author.Tests.{eq-eqb, ne-eqb}
 use Prim.Native.Nat.{ℕ, _≤_, _+_, _-_, _*_}
 use native.Mathlib.Omega.{arith}
 use lib.ListN.{length}
-use Rattle.contents.specs.Contents.{headerFault, bodyStart, some, entryFault}
+use Rattle.contents.specs.Contents.{headerFault, bodyStart, anyBelow, entryFault}
 use Rattle.contents.proofs.Laws.Some.{some-zero, some-next}
 use Rattle.contents.proofs.Laws.Entry.{fault-none}
 use Rattle.contents.proofs.Laws.Header.{header-small}
@@ -15,7 +15,7 @@ use Rattle.contents.proofs.test.Statement.{statement}
 use Rattle.contents.proofs.test.Tie as tie
 
 abbrev Inv-loop : tie.InvT-loop
-Inv-loop bs n first at₀ j₀ at j = (j ≤ n) × (at ≡ bodyStart bs j) × (some j (entryFault bs) ≡ false)
+Inv-loop bs n first at₀ j₀ at j = (j ≤ n) × (at ≡ bodyStart bs j) × (anyBelow j (entryFault bs) ≡ false)
 
 abbrev μ-loop : tie.MeasureT-loop
 μ-loop bs n first at₀ j₀ at j = n - j

@@ -8,7 +8,7 @@ use lib.ListN.{length, drop, getD, length-append}
 use Rattle.exact.specs.Sum.{total}
 use Rattle.fields.specs.Bytes.{le, front}
 use Rattle.fields.proofs.Laws.Front.{length-le, length-front, front-out}
-use Rattle.contents_lay.specs.Lay.{Written, entryBytes, laidStart, entriesBytes, laidBytes, layNumber, unless, laidAnswer, laidArea, Laid}
+use Rattle.contents_lay.specs.Lay.{entryBytes, laidStart, entriesBytes, laidBytes, layNumber, unless, laidAnswer, laidArea, ContentsLaid}
 use Rattle.contents_lay.proofs.Laws.Lay.{lay-lists}
 
 pub laid-zero : (ls : List ℕ) → 4 + 8 * length ls ≡ laidStart ls 0
@@ -41,7 +41,7 @@ length-laid ks ws ls = omega (arith, length-entries ks ws ls (length ks))
 
 -- ---- answer and area
 module _ (xs ks ws ls : List ℕ) where
-  pub refused : (n : ℕ) → n ≡ layNumber (length xs) ks ws ls → (n ≡ 0 → ⊥) → Laid xs ks ws ls (record { refusal = n; bytes = 0 }) xs
+  pub refused : (n : ℕ) → n ≡ layNumber (length xs) ks ws ls → (n ≡ 0 → ⊥) → ContentsLaid xs ks ws ls (record { refusal = n; bytes = 0 }) xs
   unfolding laidAnswer laidArea
   refused zero e h = absurd (h refl)
   refused (suc n) e h = record {
@@ -49,7 +49,7 @@ module _ (xs ks ws ls : List ℕ) where
     area = λ i. unless (e i) (front xs (laidBytes ks ws ls)) xs;
   }
 
-  pub laid : (ys : List ℕ) (n : ℕ) → n ≡ layNumber (length xs) ks ws ls → n ≡ 0 → ys ≡ front xs (laidBytes ks ws ls) → Laid xs ks ws ls (record { refusal = 0; bytes = 4 + 8 * length ks }) ys
+  pub laid : (ys : List ℕ) (n : ℕ) → n ≡ layNumber (length xs) ks ws ls → n ≡ 0 → ys ≡ front xs (laidBytes ks ws ls) → ContentsLaid xs ks ws ls (record { refusal = 0; bytes = 4 + 8 * length ks }) ys
   unfolding laidAnswer laidArea
   laid ys n is z w =
       let e = sym z ∙ is in record {
@@ -79,7 +79,3 @@ module _ (xs ks ws ls : List ℕ) where
       go : (n : ℕ) → n ≡ layNumber (length xs) ks ws ls → length (unless n (front xs (laidBytes ks ws ls)) xs) ≡ length xs
       go zero e = length-front xs (laidBytes ks ws ls) (omega (arith, length-laid ks ws ls, lay-lists (length xs) ks ws ls 0 e refl .area))
       go (suc n) e = refl
-
-  -- no second answer, and no second area
-  pub one-laid : (r r′ : Written) (ys ys′ : List ℕ) → Laid xs ks ws ls r ys → Laid xs ks ws ls r′ ys′ → (r ≡ r′) × (ys ≡ ys′)
-  one-laid r r′ ys ys′ a b = (a .answer ∙ sym (b .answer), a .area ∙ sym (b .area))

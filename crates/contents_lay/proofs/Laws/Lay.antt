@@ -7,7 +7,7 @@ use native.Mathlib.Omega.{arith}
 use lib.Dec.{eqb, ltb}
 use lib.ListN.{length}
 use borrow.Author.Tests.{lt-ltb, le-ltb, eq-eqb, ne-eqb, eqb-true, ltb-true, ltb-false, not-false}
-use Rattle.contents.specs.Contents.{some}
+use Rattle.contents.specs.Contents.{anyBelow}
 use Rattle.contents_lay.specs.Lay.{laidStart, tooMany, badKind, badLists, layNumber}
 use Rattle.contents.proofs.Laws.Some.{or-no-left, or-no-right}
 
@@ -38,15 +38,15 @@ module _ (ks ws ls : List ℕ) where
     bad-lengths h = rw (eq-eqb (length ws) (length ks) a, ne-eqb (length ls) (length ks) h)
 
     module _ (b : length ls ≡ length ks) where
-      pub bad-kinds : some (length ks) (badKind ks) ≡ true → badLists ks ws ls ≡ true
+      pub bad-kinds : anyBelow (length ks) (badKind ks) ≡ true → badLists ks ws ls ≡ true
       unfolding badLists
       bad-kinds h = rw (eq-eqb (length ws) (length ks) a, eq-eqb (length ls) (length ks) b, h)
 
-      pub bad-total : some (length ks) (badKind ks) ≡ false → 60000 < laidStart ls (length ls) → badLists ks ws ls ≡ true
+      pub bad-total : anyBelow (length ks) (badKind ks) ≡ false → 60000 < laidStart ls (length ls) → badLists ks ws ls ≡ true
       unfolding badLists
       bad-total s h = rw (eq-eqb (length ws) (length ks) a, eq-eqb (length ls) (length ks) b, s, lt-ltb 60000 (laidStart ls (length ls)) h)
 
-      pub bad-none : some (length ks) (badKind ks) ≡ false → laidStart ls (length ls) ≤ 60000 → badLists ks ws ls ≡ false
+      pub bad-none : anyBelow (length ks) (badKind ks) ≡ false → laidStart ls (length ls) ≤ 60000 → badLists ks ws ls ≡ false
       unfolding badLists
       bad-none s h = rw (eq-eqb (length ws) (length ks) a, eq-eqb (length ls) (length ks) b, s, le-ltb 60000 (laidStart ls (length ls)) h)
 
@@ -72,7 +72,7 @@ pub record Lists (room : ℕ) (ks ws ls : List ℕ) : Type 0 where
   pub few : length ks ≤ 16
   pub widths : length ws ≡ length ks
   pub lengths : length ls ≡ length ks
-  pub kinds : some (length ks) (badKind ks) ≡ false
+  pub kinds : anyBelow (length ks) (badKind ks) ≡ false
   pub size : laidStart ls (length ls) ≤ 60000
   pub area : 4 + 8 * length ks ≤ room
 
@@ -83,7 +83,7 @@ found ks ws ls room a b r =
     let wide = ltb 16 (length ws) in
     let w = not (eqb (length ws) (length ks)) in
     let l = not (eqb (length ls) (length ks)) in
-    let k = some (length ks) (badKind ks) in
+    let k = anyBelow (length ks) (badKind ks) in
     let big = ltb 60000 (laidStart ls (length ls)) in
     let equal = or-no-left (w || l) k (or-no-left (w || l || k) big b) in record {
       few = ltb-false 16 (length ks) (or-no-left many wide (or-no-left (many || wide) (ltb 16 (length ls)) a));

@@ -5,14 +5,14 @@ use borrow.Author.Needs.{needs}
 use Prim.Native.Nat.{ℕ, _≤_, _-_}
 use native.Mathlib.Omega.{arith}
 use lib.ListN.{length}
-use Rattle.contents.specs.Contents.{some}
+use Rattle.contents.specs.Contents.{anyBelow}
 use Rattle.contents_lay.specs.Lay.{badKind}
 use Rattle.contents.proofs.Laws.Some.{some-zero, some-next, some-here}
 use Rattle.contents_lay.proofs.bad_kind.Statement.{statement}
 use Rattle.contents_lay.proofs.bad_kind.Tie as tie
 
 abbrev Inv-loop : tie.InvT-loop
-Inv-loop kinds i₀ i = (i ≤ length kinds) × (some i (badKind kinds) ≡ false)
+Inv-loop kinds i₀ i = (i ≤ length kinds) × (anyBelow i (badKind kinds) ≡ false)
 
 abbrev μ-loop : tie.MeasureT-loop
 μ-loop kinds i₀ i = length kinds - i
@@ -49,7 +49,7 @@ returns-2 c =
     let ks = c .before .before .before .args .kinds .now in
     let l = c .before .loop in
     let q : l .i ≡ length ks = omega arith in
-    sym (l .inv .1) ∙ ap (λ (k : ℕ). some k (badKind ks)) q
+    sym (l .inv .1) ∙ ap (λ (k : ℕ). anyBelow k (badKind ks)) q
 
 pub bad-kind-spec : {M : Type 1} → statement M
 bad-kind-spec =

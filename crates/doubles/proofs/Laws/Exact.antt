@@ -11,7 +11,7 @@ use lib.Ieee.Fits.{round-fits}
 use lib.Ieee.Exact.{round-exact}
 use lib.Ieee.Scale.{round-same}
 use lib.Ieee.Positive.{positive, positive-of-value, mul-at}
-use Rattle.doubles.specs.Steps.{repeated}
+use Rattle.doubles.specs.Inner.Steps.{repeated}
 use Rattle.doubles.proofs.Laws.Ratio.{ratio, value, odd-pos, unique}
 
 -- a ratio in range is what rounding gives at its fraction

@@ -10,9 +10,9 @@ use lib.Ieee.{Float, nan, inf, fin, minus, neg, isNan}
 use Rattle.exact.specs.declared.Amount.{Amount}
 use Rattle.exact.specs.declared.Amount.the-variants.{Zero as NoAmount, Some}
 use Rattle.doubles.specs.Power.{rootTop, rootPower}
-use Rattle.doubles.specs.Parts.{plusZero, held}
+use Rattle.doubles.specs.Parts.{plusZero, clamped}
 use Rattle.doubles.specs.Answer.{Value, answer, partsOf, answerOf}
-use Rattle.doubles.proofs.Laws.Answer.{one-two, values-of}
+use Rattle.doubles.proofs.Laws.Only.{one-two, values-of}
 use Rattle.doubles.proofs.Laws.Turns.{Sum, none, one-r, less-r, one-h, less-h, real-turns, imaginary-turns}
 
 abbrev pub IsNumber : Float → Type 0
@@ -55,11 +55,11 @@ pub numbers : (a : Amount) (x y : Float) → answer (Value x y) ≡ answerOf a �
 unfolding answer answerOf partsOf
 numbers NoAmount x y e = absurd (one-two _ _ _ (sym (values-of _ _ e)))
 numbers (Some s c) x y e =
-    let r = rootPower (held (s .0)) in
-    let h = rootPower (predℤ (held (s .0))) in
+    let r = rootPower (clamped (s .0)) in
+    let h = rootPower (predℤ (clamped (s .0))) in
     let p = c .0 % 8 in
     let l : p < 8 = omega arith in
-    let f = root-number (held (s .0)) in
-    let g = root-number (predℤ (held (s .0))) in
+    let f = root-number (clamped (s .0)) in
+    let g = root-number (predℤ (clamped (s .0))) in
     let t = heads x y _ _ (values-of _ _ e) in
     (subst IsNumber (sym (t .0)) (sum-number r h _ _ _ (real-turns p r h l) f g), subst IsNumber (sym (t .1)) (sum-number r h _ _ _ (imaginary-turns p r h l) f g))

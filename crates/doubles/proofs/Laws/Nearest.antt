@@ -10,8 +10,8 @@ use lib.Pow.{pow-add}
 use lib.Ieee.{Float, fin, binary64, up, down, minus, fits}
 use lib.Ieee.Fits.{round-fits, up-pos, down-pos}
 use Rattle.doubles.specs.Power.{rootTop, rootPower}
-use Rattle.doubles.specs.Parts.{held}
-use Rattle.doubles.specs.Nearest.{Odd, Even, InRange, Nearest, NearestTo, PowerOfTwo}
+use Rattle.doubles.specs.Parts.{clamped}
+use Rattle.doubles.specs.Nearest.{OddPower, EvenPower, PartRange, Nearest, NearestTo, PowerOfTwo}
 use Rattle.doubles.proofs.Laws.Ratio.{ratio, minus-up, minus-down}
 use Rattle.doubles.proofs.Laws.Exact.{exact}
 use Rattle.doubles.proofs.Laws.Stepped.{even-plus, odd-plus, even-minus, odd-minus}
@@ -69,7 +69,7 @@ nearest s e f h =
       over = rw (balanced s e h) (mul-lt-mul-of-pos-right (squares .1) positive);
     }
 
-pub odd-nearest : (s : ℤ) → Odd s → InRange s → NearestTo s (rootPower s)
+pub odd-nearest : (s : ℤ) → OddPower s → PartRange s → NearestTo s (rootPower s)
 odd-nearest (pos n) o r =
     let z : n % 2 ≡ 0 → ⊥ = λ k. omega arith in
     subst (NearestTo (pos n)) (sym (odd-plus n z))
@@ -81,7 +81,7 @@ odd-nearest (negsuc n) o r =
     (double-fits rootTop 0 (n / 2 + 53) 53 refl (lit< tt) (lit≤ tt) (omega arith) (omega arith)))
     (omega arith))
 
-pub even-exact : (s : ℤ) → Even s → InRange s → PowerOfTwo s (rootPower s)
+pub even-exact : (s : ℤ) → EvenPower s → PartRange s → PowerOfTwo s (rootPower s)
 even-exact (pos n) o r =
     subst (PowerOfTwo (pos n)) (sym (even-plus n o)) (
       subst (λ (e : ℤ). T (fits binary64 (fin false 1 e))) (minus-up (n / 2) 0 (n / 2) (omega arith))
@@ -99,11 +99,11 @@ even-exact (negsuc n) o r =
     )
 
 -- the powers that an amount's two components are made of
-pred-in : (n : ℕ) → n ≤ 2001 → InRange (predℤ (pos n))
+pred-in : (n : ℕ) → n ≤ 2001 → PartRange (predℤ (pos n))
 pred-in zero h = omega arith
 pred-in (suc n) h = omega arith
 
-pub held-in : (s : ℤ) → InRange (held s) × InRange (predℤ (held s))
-unfolding held
+pub held-in : (s : ℤ) → PartRange (clamped s) × PartRange (predℤ (clamped s))
+unfolding clamped
 held-in (pos n) = (omega arith, pred-in (min n 2000) (omega arith))
 held-in (negsuc n) = omega arith

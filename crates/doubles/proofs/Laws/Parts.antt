@@ -6,25 +6,25 @@ use native.Mathlib.Omega.{arith}
 use lib.IntN.{ℤ, predℤ}
 use lib.Ieee.{Float}
 use Rattle.doubles.specs.Power.{rootPower}
-use Rattle.doubles.specs.Steps.{stepped, raised}
-use Rattle.doubles.specs.Parts.{realPart, imaginaryPart, held}
+use Rattle.doubles.specs.Inner.Steps.{stepped, raised}
+use Rattle.doubles.specs.Parts.{realPart, imaginaryPart, clamped}
 use Rattle.doubles.specs.Answer.{Value, answer, partsOf}
 use Rattle.doubles.proofs.Laws.Stepped.{stepped-at}
 use Rattle.doubles.proofs.Laws.Raised.{raised-in, held-at, pred-at}
 
-whole : (s : ℤ) → stepped (raised s) ≡ rootPower (held s)
-whole s = stepped-at (held s) (raised s) (held-at s) (omega (arith, raised-in s))
+whole : (s : ℤ) → stepped (raised s) ≡ rootPower (clamped s)
+whole s = stepped-at (clamped s) (raised s) (held-at s) (omega (arith, raised-in s))
 
-less : (s : ℤ) → stepped (raised s - 1) ≡ rootPower (predℤ (held s))
-less s = stepped-at (predℤ (held s)) (raised s - 1) (pred-at (held s) (raised s) (held-at s) (omega (arith, raised-in s))) (omega (arith, raised-in s))
+less : (s : ℤ) → stepped (raised s - 1) ≡ rootPower (predℤ (clamped s))
+less s = stepped-at (predℤ (clamped s)) (raised s - 1) (pred-at (clamped s) (raised s) (held-at s) (omega (arith, raised-in s))) (omega (arith, raised-in s))
 
 -- one arm: the phase is n, and r and h are the two sizes
 pub arm : (s : ℤ) (p n u : ℕ) (r h : Float) → u ≡ raised s → r ≡ stepped u → h ≡ stepped (u - 1) → p % 8 ≡ n
     → answer (Value (realPart n r h) (imaginaryPart n r h)) ≡ partsOf s p
 unfolding answer partsOf
 arm s p n u r h eu er eh ep =
-    let ar : r ≡ rootPower (held s) = er ∙ ap stepped eu ∙ whole s in
-    let ah : h ≡ rootPower (predℤ (held s)) = eh ∙ ap (λ (k : ℕ). stepped (k - 1)) eu ∙ less s in
+    let ar : r ≡ rootPower (clamped s) = er ∙ ap stepped eu ∙ whole s in
+    let ah : h ≡ rootPower (predℤ (clamped s)) = eh ∙ ap (λ (k : ℕ). stepped (k - 1)) eu ∙ less s in
     λ i. record {
       number = 0;
       values = realPart (sym ep i) (ar i) (ah i) ∷ imaginaryPart (sym ep i) (ar i) (ah i) ∷ [];

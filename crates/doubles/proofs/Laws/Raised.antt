@@ -1,4 +1,4 @@
--- The raised power: what it is past each test of the code, and that it stands 2,002 above the held power.
+-- The raised power: what it is past each test of the code, and that it stands 2,002 above the clamped power.
 use mathlib.Core.Path.{_≡_, ap}
 use Prim.Native.Nat.{ℕ, zero, suc, _-_, _≤_}
 use mathlib.Core.Bool.{true, false, false≢true}
@@ -6,8 +6,8 @@ use native.Mathlib.Omega.{arith}
 use lib.IntN.{ℤ, pos, negsuc, predℤ, _+ℤ_}
 use lib.Signed.{ltZ}
 use borrow.Author.Tests.{ltb-true, ltb-false, le-ltb}
-use Rattle.doubles.specs.Steps.{raised}
-use Rattle.doubles.specs.Parts.{held}
+use Rattle.doubles.specs.Inner.Steps.{raised}
+use Rattle.doubles.specs.Parts.{clamped}
 use Rattle.doubles.proofs.Laws.Stepped.{At}
 
 pub raised-in : (s : ℤ) → (2 ≤ raised s) × (raised s ≤ 4002)
@@ -33,8 +33,8 @@ raised-moved (negsuc n) h g =
     let t : suc n ≤ 2002 = omega arith in
     rw (le-ltb 2002 (suc n) t) (ap pos (omega arith))
 
-pub held-at : (s : ℤ) → At (held s) (raised s)
-unfolding raised held
+pub held-at : (s : ℤ) → At (clamped s) (raised s)
+unfolding raised clamped
 held-at (pos n) = omega arith
 held-at (negsuc n) = omega arith
 

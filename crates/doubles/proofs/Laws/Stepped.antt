@@ -9,7 +9,7 @@ use lib.Dec.{ltb, lit<, lit≤}
 use borrow.Author.Tests.{ltb-true, ltb-false, eq-eqb, ne-eqb}
 use lib.Ieee.{fin, minus}
 use Rattle.doubles.specs.Power.{rootTop, rootPower}
-use Rattle.doubles.specs.Steps.{repeated, two, half, startAt, stepped}
+use Rattle.doubles.specs.Inner.Steps.{repeated, two, half, startAt, stepped}
 use Rattle.doubles.proofs.Laws.Ratio.{ratio, minus-up, minus-down, ratio-same}
 use Rattle.doubles.proofs.Laws.Exact.{product-exact, repeat}
 

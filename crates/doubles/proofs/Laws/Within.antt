@@ -1,18 +1,18 @@
--- What a normal table can give, a power from −2,000 to 2,000 and a phase below 8, is answered as it stands: nothing is held or reduced.
+-- What a normal table can give, a power from −2,000 to 2,000 and a phase below 8, is answered as it stands: nothing is clamped or reduced.
 use mathlib.Core.Path.{_≡_, ap}
 use Prim.Native.Nat.{ℕ, _%_, _≤_, _<_}
 use native.Mathlib.Omega.{arith}
 use lib.IntN.{ℤ, pos, negsuc}
 use Rattle.exact.specs.Amount.{some}
-use Rattle.doubles.specs.Parts.{held}
+use Rattle.doubles.specs.Parts.{clamped}
 use Rattle.doubles.specs.Answer.{pairOf, partsOf, answerOf}
 
 abbrev pub Within : ℤ → Type 0
 Within (pos n) = n ≤ 2000
 Within (negsuc n) = n ≤ 1999
 
-pub held-same : (s : ℤ) → Within s → held s ≡ s
-unfolding held
+pub held-same : (s : ℤ) → Within s → clamped s ≡ s
+unfolding clamped
 held-same (pos n) h = ap pos (omega arith)
 held-same (negsuc n) h = ap negsuc (omega arith)
 

@@ -1,7 +1,8 @@
 -- `doubles::of_answer` meets its contract: the case that the match found is the definition's.
 use borrow.Author.Needs.{needs}
 use mathlib.Core.Path.{sym, ap, _∙_}
-use Rattle.doubles.specs.Answer.{answer, answerFor}
+use Rattle.doubles.specs.Answer.{answer}
+use Rattle.doubles.specs.Inner.Answer.{answerFor}
 use Rattle.doubles.proofs.of_answer.Statement.{statement}
 use Rattle.doubles.proofs.of_answer.Tie as tie
 

@@ -6,7 +6,7 @@ use native.Mathlib.Omega.{arith}
 use lib.Ieee.{ofBits, neg}
 use mir.Syntax.{w32}
 use mir.ValLaws.{toZ-ofZ}
-use Rattle.doubles.specs.Steps.{raised}
+use Rattle.doubles.specs.Inner.Steps.{raised}
 use Rattle.doubles.specs.Parts.{realPart, imaginaryPart}
 use Rattle.doubles.specs.Answer.{Value, answer, partsOf}
 use Rattle.doubles.proofs.Laws.Raised.{raised-in}

@@ -8,7 +8,7 @@ use lib.Dec.{T}
 use mir.Syntax.{w32}
 use mir.Val.{SFits, Fits, toZ, ofZ}
 use mir.ValLaws.{toZ-ofZ}
-use Rattle.doubles.specs.Steps.{raised}
+use Rattle.doubles.specs.Inner.Steps.{raised}
 use Rattle.doubles.proofs.Laws.Raised.{raised-in, raised-low, raised-high, raised-moved}
 use Rattle.doubles.proofs.raise.Statement.{statement}
 use Rattle.doubles.proofs.raise.Tie as tie

@@ -3,7 +3,7 @@ use mathlib.Core.Path.{_≡_, refl, ap, _∙_}
 use Prim.Native.Nat.{_≤_, _-_}
 use native.Mathlib.Omega.{arith}
 use native.Mathlib.Numerals.{add-one}
-use Rattle.doubles.specs.Steps.{repeated}
+use Rattle.doubles.specs.Inner.Steps.{repeated}
 use Rattle.doubles.proofs.repeat.Statement.{statement}
 use Rattle.doubles.proofs.repeat.Tie as tie
 

@@ -4,7 +4,7 @@ use borrow.Author.Tests.{lt-ltb, le-ltb}
 use mathlib.Core.Path.{ap, _∙_}
 use Prim.Native.Nat.{_-_, _/_}
 use lib.Ieee.{Float, ofBits}
-use Rattle.doubles.specs.Steps.{repeated, two, half, stepped}
+use Rattle.doubles.specs.Inner.Steps.{repeated, two, half, stepped}
 use Rattle.doubles.proofs.root_power.Statement.{statement}
 use Rattle.doubles.proofs.root_power.Tie as tie
 

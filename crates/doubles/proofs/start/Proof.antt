@@ -1,7 +1,7 @@
 -- `doubles::start` meets its contract: the literals' bits are the values.
 use borrow.Author.Tests.{eq-eqb, ne-eqb}
 use lib.Ieee.{ofBits}
-use Rattle.doubles.specs.Steps.{startAt}
+use Rattle.doubles.specs.Inner.Steps.{startAt}
 use Rattle.doubles.proofs.start.Statement.{statement}
 use Rattle.doubles.proofs.start.Tie as tie
 

@@ -6,7 +6,8 @@ use native.Mathlib.Nat.{pow-suc, add-zero, sub-zero, pow-le-pow-right, lt-of-lt-
 use native.Mathlib.Omega.{arith}
 use lib.ListN.{length, take, drop, List·getD-eq-default}
 use lib.Seq.{drop-cons, getD-drop, getD-take}
-use Rattle.fields.specs.Bytes.{byteAt, le, ofLe, number, front, Stated}
+use Rattle.fields.specs.Bytes.{byteAt, le, number, front}
+use Rattle.fields.specs.Inner.Bytes.{ofLe, Stated}
 use Rattle.fields.proofs.Laws.Front.{length-le, take-front}
 
 pub byte-beyond : (bs : List ℕ) (i : ℕ) → length bs ≤ i → 0 ≡ byteAt bs i

@@ -7,7 +7,7 @@ use native.Mathlib.Omega.{arith}
 use lib.ListN.{length, take, drop, set, length-append, length-set}
 use lib.Seq.{set-out, take-set-le, take-at, sets, sets-eq}
 use Rattle.exact.proofs.Laws.Sum.{split}
-use Rattle.lines_words.specs.Overlay.{overlaid, top, after}
+use Rattle.lines_words.specs.Overlay.{overlaid, top, placeBehind}
 
 -- the length stays
 pub overlaid-length : (xs : List ℕ) (at : ℕ) (bs : List ℕ) → length (overlaid xs at bs) ≡ length xs
@@ -53,13 +53,13 @@ overlaid-front xs bs h = ap (take (length bs)) (overlaid-fits xs 0 bs (omega ari
 
 -- ---- with a place that stops at the largest
 -- the place behind two texts
-pub after-more : (at : ℕ) (bs cs : List ℕ) → after (after at bs) cs ≡ after at (bs ++ cs)
-unfolding after
+pub after-more : (at : ℕ) (bs cs : List ℕ) → placeBehind (placeBehind at bs) cs ≡ placeBehind at (bs ++ cs)
+unfolding placeBehind
 after-more at bs cs = rw (length-append bs cs) (omega arith)
 
 -- a text laid from the place behind another, in an area that is no longer than places go
-pub overlaid-after : (xs : List ℕ) (at : ℕ) (bs cs : List ℕ) → length xs ≤ top → overlaid (overlaid xs at bs) (after at bs) cs ≡ overlaid xs at (bs ++ cs)
-unfolding after
+pub overlaid-after : (xs : List ℕ) (at : ℕ) (bs cs : List ℕ) → length xs ≤ top → overlaid (overlaid xs at bs) (placeBehind at bs) cs ≡ overlaid xs at (bs ++ cs)
+unfolding placeBehind
 overlaid-after xs at bs cs h = ⊎-elim near far (split (at + length bs) top)
   where
     near : at + length bs < top → overlaid (overlaid xs at bs) (min (at + length bs) top) cs ≡ overlaid xs at (bs ++ cs)

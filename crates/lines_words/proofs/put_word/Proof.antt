@@ -5,13 +5,13 @@ use mathlib.Core.Path.{_≡_, ap, _∙_}
 use Prim.Native.Nat.{ℕ, _≤_, _-_}
 use lib.ListN.{length, take}
 use lib.Seq.{take-length}
-use Rattle.lines_words.specs.Overlay.{Laid}
+use Rattle.lines_words.specs.Overlay.{TextLaid}
 use Rattle.lines_words.proofs.Laws.Laid.{laid-none, laid-next, laid-text, laid-length}
 use Rattle.lines_words.proofs.put_word.Statement.{statement}
 use Rattle.lines_words.proofs.put_word.Tie as tie
 
 abbrev Inv-loop : tie.InvT-loop
-Inv-loop area₀ at word place₀ i₀ area place i = (i ≤ length word) × Laid area₀ at (take i word) area place
+Inv-loop area₀ at word place₀ i₀ area place i = (i ≤ length word) × TextLaid area₀ at (take i word) area place
 
 abbrev μ-loop : tie.MeasureT-loop
 μ-loop area₀ at word place₀ i₀ area place i = length word - i

@@ -6,7 +6,8 @@ use Prim.Native.Nat.{ℕ}
 use Rattle.bits.proofs.Laws.Bit.{same-or}
 use Rattle.contents.specs.Contents.{countOf}
 use Rattle.lines.specs.Lines.{bookLine, refusedLine}
-use Rattle.lines_words.proofs.Laws.Laid.{laid-text, no-second}
+use Rattle.lines_words.proofs.Laws.Laid.{laid-text}
+use Rattle.lines_words.proofs.Laws.Only.{one-text}
 use Rattle.book.proofs.Laws.Only.{one-number, one-body}
 use Rattle.listing.specs.Listing.{bodyLines, Listing, Listed}
 use Rattle.listing.proofs.Laws.Sofar.{lines-same}
@@ -27,4 +28,4 @@ module _ (bs text more : List ℕ) (L : Listing bs text) (M : Listing bs more) w
 
 pub one-listing : (bs xs ys zs : List ℕ) (p q : ℕ) → Listed bs xs ys p → Listed bs xs zs q → (ys ≡ zs) × (p ≡ q)
 one-listing bs xs ys zs p q L M =
-    no-second (laid-text (one-text bs (L .text) (M .text) (L .listing) (M .listing)) (L .laid)) (M .laid)
+    one-text (laid-text (one-text bs (L .text) (M .text) (L .listing) (M .listing)) (L .laid)) (M .laid)

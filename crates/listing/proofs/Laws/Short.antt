@@ -24,8 +24,8 @@ use Rattle.body_read.specs.Table.{tableOf}
 use Rattle.lines.specs.Lines.{bookLine, refusedLine}
 use Rattle.lines.proofs.Laws.Lengths.{InRange, book-length, circuit-length, table-length, refused-length}
 use Rattle.book.specs.declared.Body.{Body}
-use Rattle.book.specs.Book.{BookNumber, bodyBytes, circuitBodyNumber}
-use Rattle.book.specs.Read.{refusal, whole, saidNumber, saidAmount, CircuitAnswer, TableAnswer, ReadsBody}
+use Rattle.book.specs.Book.{BookNumber, bytesOf, circuitBodyNumber}
+use Rattle.book.specs.Read.{refusal, tableBody, saidNumber, saidAmount, CircuitAnswer, TableAnswer, ReadsBody}
 use Rattle.book.proofs.Laws.Number.{contents-good}
 use Rattle.book.proofs.Laws.Only.{one-number}
 use Rattle.listing.specs.Listing.{tableAmount, bodyLine, bodyLines}
@@ -65,7 +65,7 @@ module _ (j : ℕ) (h : j < 16) where
       (λ (ne : circuitBodyNumber n bs ≢ 0). subst (λ (c : Body). long j c ≤ 19) (sym (A .refused ne)) (refused-none (circuitBodyNumber n bs)))
       (same-or (circuitBodyNumber n bs) 0)
 
-  whole-short : (t : State) → Normal t → long j (whole t) ≤ 19
+  whole-short : (t : State) → Normal t → long j (tableBody t) ≤ 19
   unfolding long bodyLine
   whole-short t N =
       table-length j (ones (t .live)) (ties t) (tableAmount t) (omega arith) (omega (arith, ones-le 64 (t .live) (N .live-range))) (omega (arith, N .reduced .count-range)) (table-range t N)
@@ -79,7 +79,7 @@ module _ (j : ℕ) (h : j < 16) where
       by : (f : Bool) → bodyFault n bs ≡ f → long j b ≤ 19
       by true e = same (refusal 11) (A .fault e) (refused-none 11)
       by false e =
-          ⊎-elim (λ (z : saidNumber (b .said) ≡ 0). same (whole (tableOf n bs)) (A .sound e (A .normal z)) (whole-short (tableOf n bs) (A .normal z)))
+          ⊎-elim (λ (z : saidNumber (b .said) ≡ 0). same (tableBody (tableOf n bs)) (A .sound e (A .normal z)) (whole-short (tableOf n bs) (A .normal z)))
           (λ (ne : saidNumber (b .said) ≢ 0). same (refusal 12) (A .broken e (λ t. ne (ap (λ (x : Body). saidNumber (x .said)) (A .sound e t)))) (refused-none 12))
           (same-or (saidNumber (b .said)) 0)
 
@@ -91,8 +91,8 @@ module _ (bs : List ℕ) (k : ℕ) (B : BookNumber bs k) (z : k ≡ 0) where
   line-short : (j : ℕ) (b : Body) → j < countOf bs → ReadsBody bs j b → long j b ≤ 19
   line-short j b h R =
       let a = R .answer (one-number bs (R .number) k (R .tested) B ∙ z) h in
-      ⊎-elim (λ c. circuit-short j (omega (arith, few, h)) (widthOf bs j) (bodyBytes bs j) b (a .circuit c))
-      (λ c. table-short j (omega (arith, few, h)) (widthOf bs j) (bodyBytes bs j) b (a .table c)) (good bs (contents-good bs k B z) .body j h (entryOf bs j) refl .kind)
+      ⊎-elim (λ c. circuit-short j (omega (arith, few, h)) (widthOf bs j) (bytesOf bs j) b (a .circuit c))
+      (λ c. table-short j (omega (arith, few, h)) (widthOf bs j) (bytesOf bs j) b (a .table c)) (good bs (contents-good bs k B z) .body j h (entryOf bs j) refl .kind)
 
   lines-short : (f : ℕ → Body) → ((j : ℕ) → j < countOf bs → ReadsBody bs j (f j)) → (n : ℕ) → n ≤ countOf bs → length (bodyLines n f) ≤ 19 * n
   unfolding bodyLines long

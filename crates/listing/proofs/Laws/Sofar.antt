@@ -11,7 +11,7 @@ use lib.Dec.{eqb}
 use lib.ListN.{length}
 use Rattle.exact.proofs.Laws.Sum.{split}
 use Rattle.contents.specs.Contents.{countOf}
-use Rattle.lines_words.specs.Overlay.{top, Laid}
+use Rattle.lines_words.specs.Overlay.{top, TextLaid}
 use Rattle.lines.specs.Lines.{bookLine, refusedLine}
 use Rattle.lines_words.proofs.Laws.Laid.{laid-none, laid-length, laid-more, laid-text}
 use Rattle.book.specs.Book.{BookNumber}
@@ -28,14 +28,14 @@ pub few : (bs : List ℕ) (k n : ℕ) → BookNumber bs k → k ≡ 0 → n ≡ 
 few bs k n B z e = omega (arith, e, good bs (contents-good bs k B z) .count)
 
 -- a writer leaves the area as short as it was
-pub narrow : {xs text ys : List ℕ} {at r : ℕ} → Laid xs at text ys r → length xs ≤ top → length ys ≤ top
+pub narrow : {xs text ys : List ℕ} {at r : ℕ} → TextLaid xs at text ys r → length xs ≤ top → length ys ≤ top
 narrow l h = omega (arith, laid-length l, h)
 
 -- the lines of the first j bodies are written, from a place on
 pub record Sofar (bs xs : List ℕ) (p j : ℕ) (ys : List ℕ) (at : ℕ) : Type 0 where
   pub bodies : ℕ → Body
   pub read : (i : ℕ) → i < j → ReadsBody bs i (bodies i)
-  pub laid : Laid xs p (bodyLines j bodies) ys at
+  pub laid : TextLaid xs p (bodyLines j bodies) ys at
 
 -- the lines hang on the first n bodies alone
 pub lines-same : (n : ℕ) (f g : ℕ → Body) → ((i : ℕ) → i < n → f i ≡ g i) → bodyLines n f ≡ bodyLines n g
@@ -84,7 +84,7 @@ module _ (bs xs : List ℕ) where
     unfolding f
     below-j i h = subst (ReadsBody bs i) (sym (with-else (S .bodies) j b i h)) (S .read i h)
 
-    pub grown : ReadsBody bs j b → Laid ys at (bodyLine j (b .said) (b .table)) zs q → Sofar bs xs p (j + 1) zs q
+    pub grown : ReadsBody bs j b → TextLaid ys at (bodyLine j (b .said) (b .table)) zs q → Sofar bs xs p (j + 1) zs q
     grown r l = record {
       bodies = f;
       read = λ i h. ⊎-elim (λ (s : i < j). below-j i s) (λ (s : j ≤ i). at-j r i (omega (arith, s, h))) (split i j);
@@ -93,7 +93,7 @@ module _ (bs xs : List ℕ) where
 
   -- behind the first line, all bodies of a good book are written
   pub whole : (k j p : ℕ) (ys zs : List ℕ) (r : ℕ) → length xs ≤ top → BookNumber bs k → k ≡ 0 → j ≡ countOf bs
-      → Laid xs 0 (bookLine (countOf bs)) ys p → Sofar bs ys p j zs r → Listed bs xs zs r
+      → TextLaid xs 0 (bookLine (countOf bs)) ys p → Sofar bs ys p j zs r → Listed bs xs zs r
   whole k j p ys zs r short B z e l S = record {
     text = bookLine (countOf bs) ++ bodyLines (countOf bs) (S .bodies);
     listing = record {
@@ -109,7 +109,7 @@ module _ (bs xs : List ℕ) where
   }
 
   -- a refused book is its single line
-  pub single : (k : ℕ) (ys : List ℕ) (r : ℕ) → k < 256 → BookNumber bs k → k ≢ 0 → Laid xs 0 (refusedLine k) ys r → Listed bs xs ys r
+  pub single : (k : ℕ) (ys : List ℕ) (r : ℕ) → k < 256 → BookNumber bs k → k ≢ 0 → TextLaid xs 0 (refusedLine k) ys r → Listed bs xs ys r
   single k ys r h B ne l = record {
     text = refusedLine k;
     listing = record {

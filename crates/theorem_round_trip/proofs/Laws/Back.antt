@@ -10,7 +10,7 @@ use Rattle.state.specs.Entry.{entry, turn, row, tie, side, ties}
 use Rattle.state.specs.Normal.{Normal}
 use Rattle.theorem_canon.proofs.Laws.Spread.{ties-fit}
 use Rattle.body_pack.specs.Packed.{packedTies, packedTable, unpacked}
-use Rattle.body_fields.specs.Fields.{plainBytes}
+use Rattle.body_fields.specs.Inner.Fields.{plainBytes}
 use Rattle.body_write.specs.Body.{bodyBytes}
 use Rattle.body_pack.proofs.Laws.Read.{ones-small}
 use Rattle.body_fields.proofs.Laws.Bytes.{length-fields}

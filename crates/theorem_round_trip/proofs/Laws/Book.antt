@@ -15,7 +15,7 @@ use Rattle.contents_lay.proofs.Laws.Lay.{lay-lists}
 use Rattle.contents_lay.proofs.Laws.Laid.{length-laid}
 use Rattle.contents_lay.proofs.Laws.Round.{Round, round}
 use Rattle.body_fields.specs.Fields.{joined}
-use Rattle.book.specs.Book.{bodyBytes, circuitBodyNumber, TableNumber, BodyNumber}
+use Rattle.book.specs.Book.{bytesOf, circuitBodyNumber, TableNumber, BodyNumber}
 use Rattle.book.proofs.Laws.Number.{book-clear}
 use Rattle.theorem_round_trip.specs.Book.{laidBook, Fits, Holds}
 use Rattle.theorem_round_trip.proofs.Laws.Joined.{joined-length, joined-at}
@@ -55,8 +55,8 @@ module _ (room : ℕ) (ks ws ls : List ℕ) (bodies : ℕ → List ℕ) (z : lay
     start-is : startOf book j ≡ laidStart ls j
     start-is = ap (λ (e : Entry). e .start) (rounded .entry j h)
 
-    body-is : bodyBytes book j ≡ bodies j
-    unfolding bodyBytes
+    body-is : bytesOf book j ≡ bodies j
+    unfolding bytesOf
     body-is =
         ap₂ (λ (k at : ℕ). take k (drop at book)) (length-is ∙ sym (fits j h .long)) (start-is ∙ starts j (omega arith))
         ∙ ap (take (length (bodies j))) (drop-append-add (laidBytes ks ws ls) (joined (length ks) bodies) (length (joined j bodies)))
@@ -66,7 +66,7 @@ module _ (room : ℕ) (ks ws ls : List ℕ) (bodies : ℕ → List ℕ) (z : lay
     number-is = record {
       circuit = λ k. sym (ap₂ circuitBodyNumber width-is body-is ∙ fits j h .circuit (sym kind-is ∙ k));
       table = λ k.
-          subst (λ (n : ℕ). TableNumber n (bodyBytes book j) accepted) (sym width-is)
+          subst (λ (n : ℕ). TableNumber n (bytesOf book j) accepted) (sym width-is)
           (subst (λ (l : List ℕ). TableNumber (getD ws j 0) l accepted) (sym body-is) (fits j h .table (sym kind-is ∙ k)));
     }
 

@@ -13,8 +13,8 @@ use Rattle.body_pack.specs.Packed.{packedTable, unpacked}
 use Rattle.body_write.specs.Body as pack
 use Rattle.body_pack.proofs.Laws.Entry.{packed-entry}
 use Rattle.book.specs.declared.Body.{Body}
-use Rattle.book.specs.Book.{bodyBytes, TableNumber}
-use Rattle.book.specs.Read.{whole, TableAnswer, ReadsBody}
+use Rattle.book.specs.Book.{bytesOf, TableNumber}
+use Rattle.book.specs.Read.{tableBody, TableAnswer, ReadsBody}
 use Rattle.book.proofs.Laws.Only.{one-number}
 use Rattle.theorem_round_trip.specs.Book.{Holds}
 use Rattle.theorem_round_trip.proofs.Laws.Back.{written-fine, written-table, written-normal}
@@ -36,10 +36,10 @@ module _ (t : State) (N : Normal t) where
           let z : R .number ≡ accepted = one-number bs (R .number) accepted (R .tested) (H .number) in
           let A = R .answer z (omega (arith, H .count)) .table (H .kind j h ∙ kind) in
           subst (λ (l : List ℕ). TableAnswer (ones (t .live)) l r) (H .body j h ∙ body)
-          (subst (λ (n : ℕ). TableAnswer n (bodyBytes bs j) r) (H .width j h ∙ width) A)
+          (subst (λ (n : ℕ). TableAnswer n (bytesOf bs j) r) (H .width j h ∙ width) A)
 
-      pub kept : r ≡ whole (packedTable t)
-      kept = answers .sound (written-fine t N) (written-normal t N) ∙ ap whole (sym (written-table t N))
+      pub kept : r ≡ tableBody (packedTable t)
+      kept = answers .sound (written-fine t N) (written-normal t N) ∙ ap tableBody (sym (written-table t N))
 
       -- "A table written to a book reads back with the same entries"
       pub kept-values : (y : ℕ → ℕ) → entry (r .table) y ≡ entry t (unpacked (t .live) y)

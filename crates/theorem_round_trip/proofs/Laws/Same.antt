@@ -14,13 +14,14 @@ use Rattle.fields.specs.Bytes.{byteAt, le, number, over}
 use Rattle.fields.proofs.Laws.Number.{number-lt, le-number}
 use Rattle.state.specs.Normal.{Normal}
 use Rattle.body_write.specs.declared.Written.{Written}
-use Rattle.body_fields.specs.Fields.{joined, mark, ofSigned16, headBytes, tieBytes, fieldBytes, plainBytes}
+use Rattle.body_fields.specs.Fields.{joined, mark, ofSigned16, headBytes, tieBytes, fieldBytes}
+use Rattle.body_fields.specs.Inner.Fields.{plainBytes}
 use Rattle.body_write.specs.Body.{bodyBytes}
 use Rattle.body_write.specs.Write.{BodyWritten}
 use Rattle.body_write.proofs.Laws.Body.{fields-ext}
 use Rattle.body_write.proofs.Laws.Same.{body-same}
 use Rattle.body_read.specs.declared.Reading.{Reading}
-use Rattle.body_fault.specs.Body.{signed16, markOf, phaseOf, powerOf, turnOf, rowOf, countOf, maskOf, sideOf, bodyFault}
+use Rattle.body_fault.specs.Body.{signed16, markOf, phaseOf, powerOf, turnOf, rowOf, tieCount, maskOf, sideOf, bodyFault}
 use Rattle.body_read.specs.Table.{formOf, tiesOf, tableOf}
 use Rattle.body_read.specs.Read.{Reads}
 use Rattle.body_fault.proofs.Laws.Signed.{signed-low, signed-high}
@@ -58,28 +59,28 @@ module _ (n : ℕ) (bs : List ℕ) (small : (i : ℕ) → byteAt bs i < 256) (f 
   rows-same : joined n (λ v. le 8 (rowOf n bs v)) ≡ segment bs (4 + n) (8 * n)
   rows-same = segment-joined bs 8 (4 + n) n _ (λ v l. number-same 8 (4 + n + 8 * v) (omega (arith, f .size)))
 
-  tie-same : (j : ℕ) → j < countOf n bs → tieBytes (maskOf n bs j) (sideOf n bs j) ≡ segment bs (5 + 9 * n + 9 * j) 9
+  tie-same : (j : ℕ) → j < tieCount n bs → tieBytes (maskOf n bs j) (sideOf n bs j) ≡ segment bs (5 + 9 * n + 9 * j) 9
   unfolding tieBytes
   tie-same j l =
       ap₂ _++_ (number-same 8 (5 + 9 * n + 9 * j) (omega (arith, f .size))) (segment-byte bs (5 + 9 * n + 9 * j + 8) (omega (arith, f .size)))
       ∙ segment-next bs (5 + 9 * n + 9 * j) 8 1
 
-  ties-same : joined (countOf n bs) (λ j. tieBytes (maskOf n bs j) (sideOf n bs j)) ≡ segment bs (5 + 9 * n) (9 * countOf n bs)
-  ties-same = segment-joined bs 9 (5 + 9 * n) (countOf n bs) _ tie-same
+  ties-same : joined (tieCount n bs) (λ j. tieBytes (maskOf n bs j) (sideOf n bs j)) ≡ segment bs (5 + 9 * n) (9 * tieCount n bs)
+  ties-same = segment-joined bs 9 (5 + 9 * n) (tieCount n bs) _ tie-same
 
-  fields-same : fieldBytes (eqb (markOf bs) 1) (phaseOf bs) (powerOf bs) n (turnOf bs) (rowOf n bs) (countOf n bs) (maskOf n bs) (sideOf n bs) ≡ bs
+  fields-same : fieldBytes (eqb (markOf bs) 1) (phaseOf bs) (powerOf bs) n (turnOf bs) (rowOf n bs) (tieCount n bs) (maskOf n bs) (sideOf n bs) ≡ bs
   unfolding fieldBytes
   fields-same =
       let to-rows = front-then bs 4 (1 * n) (4 + n) (omega arith) head-same turns-same in
       let to-count = front-then bs (4 + n) (8 * n) (4 + 9 * n) (omega arith) to-rows rows-same in
       let to-ties = front-then bs (4 + 9 * n) 1 (5 + 9 * n) (omega arith) to-count (segment-byte bs (4 + 9 * n) (omega (arith, f .size))) in
-      front-then bs (5 + 9 * n) (9 * countOf n bs) (length bs) (omega (arith, f .size)) to-ties ties-same ∙ take-length bs
+      front-then bs (5 + 9 * n) (9 * tieCount n bs) (length bs) (omega (arith, f .size)) to-ties ties-same ∙ take-length bs
 
   -- ---- the table that they state, written
   plain-same : plainBytes n (tableOf n bs) ≡ bs
   unfolding plainBytes tableOf formOf tiesOf
   plain-same =
-      fields-ext (eqb (markOf bs) 1) (phaseOf bs) (powerOf bs) n _ _ _ _ (countOf n bs) _ _ _ _
+      fields-ext (eqb (markOf bs) 1) (phaseOf bs) (powerOf bs) n _ _ _ _ (tieCount n bs) _ _ _ _
       (turn-is n bs f) (row-is n bs f) (tie-is n bs f) (side-is n bs f)
       ∙ fields-same
 

@@ -11,7 +11,7 @@ use Rattle.fields.proofs.Laws.Front.{length-le}
 use Rattle.state.specs.Normal.{InRange}
 use Rattle.body_fields.specs.Fields.{joined, mark, ofSigned16, headBytes, tieBytes, fieldBytes}
 use Rattle.body_fields.proofs.Laws.Bytes.{toTurns, toRows, toCount, toTies, length-turns, length-rows, length-count, length-ties, length-tie, fields-are}
-use Rattle.body_fault.specs.Body.{signed16, markOf, phaseOf, powerOf, turnOf, rowOf, countOf, maskOf, sideOf}
+use Rattle.body_fault.specs.Body.{signed16, markOf, phaseOf, powerOf, turnOf, rowOf, tieCount, maskOf, sideOf}
 use Rattle.body_fault.proofs.Laws.Signed.{signed-low, signed-high}
 use Rattle.theorem_round_trip.proofs.Laws.Part.{Part, part-at, part-own, part-left, part-right, part-joined, part-byte, part-number}
 
@@ -108,7 +108,7 @@ module _ (zeroed : Bool) (c : ℕ) (s : ℤ) (n : ℕ) (a b : ℕ → ℕ) (k : 
           part-right (toRows zeroed c s n a b k) (joined n rowField) (le 8 (b v)) (4 + n) (8 * v) (length-rows zeroed c s n a b k)
           (part-joined 8 n rowField (λ i. length-le 8 (b i)) v l)
 
-  pub count-is : k ≡ countOf n bytes
+  pub count-is : k ≡ tieCount n bytes
   unfolding toTies
   count-is = part-byte bytes (4 + 9 * n) k (from-ties (k ∷ []) (4 + 9 * n) (omega arith) here)
     where

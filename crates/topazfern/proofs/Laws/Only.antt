@@ -9,30 +9,30 @@ use lib.Count.{ones}
 use Rattle.bits.proofs.Laws.Bit.{same-or}
 use Rattle.state.specs.Entry.{ties}
 use Rattle.call_answers.specs.Answers.{EntryAt}
-use Rattle.theorem_history.proofs.Laws.Once.{one-entry}
+use Rattle.theorem_history.proofs.Laws.Only.{one-entry}
 use Rattle.body_read.specs.declared.Reading.{Reading}
-use Rattle.body_read.proofs.Laws.Read.{one-reading}
+use Rattle.body_read.proofs.Laws.Only.{one-reading}
 use Rattle.body_write.specs.declared.Written.{Written}
 use Rattle.body_write.specs.Write.{BodyWritten}
-use Rattle.body_write.proofs.Laws.Write.{written-one}
+use Rattle.body_write.proofs.Laws.Only.{one-written}
 use Rattle.listing.specs.Listing.{tableAmount}
-use Rattle.circuit.proofs.Laws.Amplitude.{no-second}
+use Rattle.circuit.proofs.Laws.Only.{one-amplitude}
 use Rattle.book.specs.declared.Said.{Said}
 use Rattle.book.specs.declared.Said.the-variants.{Refused, Circuit, Whole}
 use Rattle.book.specs.declared.Body.{Body}
 use Rattle.book.specs.Read.{saidNumber}
 use Rattle.book.proofs.Laws.Only.{one-body}
-use Rattle.topazfern.specs.Told.{Told, Tells, AmplitudeTold, EntryTold, WriteTold, Shown, shown, ReadTold}
+use Rattle.topazfern.specs.Told.{Told, AnswerTold, AmplitudeTold, EntryTold, WriteTold, Shown, shown, ReadTold}
 
 -- an answer is told in one way
-pub one-telling : (a : Answer) (t u v : Told) (n m : ℕ) → Tells a t n u → Tells a t m v → (n ≡ m) × (u ≡ v)
+pub one-telling : (a : Answer) (t u v : Told) (n m : ℕ) → AnswerTold a t n u → AnswerTold a t m v → (n ≡ m) × (u ≡ v)
 one-telling (NotGiven k) t u v n m A B = (A .number ∙ sym (B .number), A .kept k refl ∙ sym (B .kept k refl))
 one-telling (Is x) t u v n m A B = (A .number ∙ sym (B .number), A .given x refl ∙ sym (B .given x refl))
 
 pub one-amplitude : (width input output : ℕ) (bs : List ℕ) (t u v : Told) (n m : ℕ) → AmplitudeTold width input output bs t n u → AmplitudeTold width input output bs t m v → (n ≡ m) × (u ≡ v)
 one-amplitude width input output bs t u v n m A B =
-    let e = no-second width input output bs (A .answer) (B .answer) (A .is) (B .is) in
-    one-telling (B .answer) t u v n m (subst (λ (a : Answer). Tells a t n u) e (A .tells)) (B .tells)
+    let e = one-amplitude width input output bs (A .answer) (B .answer) (A .is) (B .is) in
+    one-telling (B .answer) t u v n m (subst (λ (a : Answer). AnswerTold a t n u) e (A .tells)) (B .tells)
 
 pub one-entry-told : (width : ℕ) (bs : List ℕ) (x : ℕ) (t u v : Told) (n m : ℕ) → EntryTold width bs x t n u → EntryTold width bs x t m v → (n ≡ m) × (u ≡ v)
 one-entry-told width bs x t u v n m A B = ⊎-elim given refused (same-or (A .reading .refusal) 0)
@@ -49,7 +49,7 @@ one-entry-told width bs x t u v n m A B = ⊎-elim given refused (same-or (A .re
         let b = B .given (sym number ∙ z) in
         let i = subst (λ (r : Reading). EntryAt (r .table) x (a .answer)) e (a .is) in
         let s = one-entry (B .reading .table) x (a .answer) (b .answer) i (b .is) in
-        one-telling (b .answer) t u v n m (subst (λ (c : Answer). Tells c t n u) s (a .tells)) (b .tells)
+        one-telling (b .answer) t u v n m (subst (λ (c : Answer). AnswerTold c t n u) s (a .tells)) (b .tells)
 
     refused : A .reading .refusal ≢ 0 → (n ≡ m) × (u ≡ v)
     refused ne =
@@ -69,7 +69,7 @@ one-write width bs xs start n m p q ys zs A B = ⊎-elim given refused (same-or 
     given : A .reading .refusal ≡ 0 → (n ≡ m) × (p ≡ q) × (ys ≡ zs)
     given z =
         let a = subst (λ (r : Reading). BodyWritten (r .table) xs start (record { refusal = n; bytes = p }) ys) e (A .written z) in
-        let w = written-one (B .reading .table) xs start (record { refusal = n; bytes = p }) (record { refusal = m; bytes = q }) ys zs a (B .written (sym number ∙ z)) in
+        let w = one-written (B .reading .table) xs start (record { refusal = n; bytes = p }) (record { refusal = m; bytes = q }) ys zs a (B .written (sym number ∙ z)) in
         (ap (λ (r : Written). r .refusal) (w .0), ap (λ (r : Written). r .bytes) (w .0), w .1)
 
     refused : A .reading .refusal ≢ 0 → (n ≡ m) × (p ≡ q) × (ys ≡ zs)

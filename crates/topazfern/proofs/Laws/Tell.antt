@@ -14,7 +14,7 @@ use Rattle.book.specs.declared.Said.the-variants.{Refused, Circuit, Whole}
 use Rattle.book.specs.declared.Body.{Body}
 use Rattle.book.specs.Read.{saidNumber, saidAmount, ReadsBody}
 use Rattle.listing.specs.Listing.{tableAmount}
-use Rattle.topazfern.specs.Told.{Told, told, Tells, Shown, shown, ReadTold}
+use Rattle.topazfern.specs.Told.{Told, told, AnswerTold, Shown, shown, ReadTold}
 
 -- ---- an answer
 -- the cases differ
@@ -27,14 +27,14 @@ unfolding which
 apart k m e = let f : _≡_ {A = ℕ} 0 1 = ap which e in omega (arith, f)
 
 module _ (a : Answer) (t : Told) where
-  pub tells-refused : (k : ℕ) → a ≡ NotGiven k → Tells a t k t
+  pub tells-refused : (k : ℕ) → a ≡ NotGiven k → AnswerTold a t k t
   tells-refused k e = record {
     number = sym (ap numberOf e);
     kept = λ j f. refl;
     given = λ m f. absurd (apart k m (sym e ∙ f));
   }
 
-  pub tells-given : (m : Amount) (u : Told) → a ≡ Is m → u ≡ told m → Tells a t 0 u
+  pub tells-given : (m : Amount) (u : Told) → a ≡ Is m → u ≡ told m → AnswerTold a t 0 u
   tells-given m u e g = record {
     number = sym (ap numberOf e);
     kept = λ k f. absurd (apart k m (sym f ∙ e));
