@@ -10,7 +10,7 @@ fn amount(h: u64, a: Amount) -> u64 {
     match a {
         Amount::Zero => try_draw::word(h, 0x8000000000000000),
         Amount::Some(power, phase) => {
-            let sized = try_draw::word(h, lines::size(power.0));
+            let sized = try_draw::word(h, lines_words::size(power.0));
             let turns = phase.0 as u64;
             try_draw::word(sized, if power.0 < 0 { !turns } else { turns })
         }
