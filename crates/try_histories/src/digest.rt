@@ -43,9 +43,9 @@ pub(crate) fn entries(before: u64, t: Table, look: u64, n: u64) -> u64 {
     h
 }
 
-// The places of a join taken into a digest.
-pub(crate) fn places(before: u64, places: [u8; 64]) -> u64 {
-    let mut h = before;
+// The places of a join.
+pub(crate) fn places(places: [u8; 64]) -> u64 {
+    let mut h: u64 = 0;
     let mut v: usize = 0;
     while v < 64 {
         h = try_draw::word(h, places[v] as u64);
