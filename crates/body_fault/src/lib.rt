@@ -113,7 +113,7 @@ fn head_fault(bs: &[u8]) -> bool
     power_out(power_of(bs))
 }
 
-// Whether anyBelow turn is out of range.
+// Whether some turn is out of range.
 fn turn_fault(bs: &[u8], width: u8) -> bool
     ensures { λ r. ⌜ r ≡ anyBelow width (turnFault (now (bs .entry))) ⌝ }
 {
@@ -127,7 +127,7 @@ fn turn_fault(bs: &[u8], width: u8) -> bool
     false
 }
 
-// Whether anyBelow row has a bit at or above the width.
+// Whether some row has a bit at or above the width.
 fn row_fault(bs: &[u8], width: u8) -> bool
     ensures { λ r. ⌜ r ≡ anyBelow width (rowFault width (now (bs .entry))) ⌝ }
 {
@@ -151,7 +151,7 @@ fn tie_fault(bs: &[u8], width: u8, j: u8) -> bool
     side_of(bs, width, j) > 1
 }
 
-// Whether anyBelow tie is out of range.
+// Whether some tie is out of range.
 fn ties_fault(bs: &[u8], width: u8) -> bool
     ensures { λ r. ⌜ r ≡ anyBelow (tieCount width (now (bs .entry))) (tieFault width (now (bs .entry))) ⌝ }
 {

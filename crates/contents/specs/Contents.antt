@@ -34,7 +34,7 @@ entryOf bs j = record { kind = kindOf bs j; width = widthOf bs j; start = startO
 unfoldable pub bodyStart : List ℕ → ℕ → ℕ
 bodyStart bs j = 4 + 8 * countOf bs + total j (lengthOf bs)
 
--- f holds of anyBelow number below n
+-- f holds of some number below n
 unfoldable pub anyBelow : ℕ → (ℕ → Bool) → Bool
 anyBelow zero f = false
 anyBelow (suc n) f = anyBelow n f || f n

@@ -13,7 +13,7 @@ pub struct Written {
     pub bytes: usize,
 }
 
-// Whether anyBelow kind is neither of the two.
+// Whether some kind is neither of the two.
 fn bad_kind(kinds: &[u8]) -> bool
     ensures { λ r. ⌜ r ≡ anyBelow (length (now (kinds .entry))) (badKind (now (kinds .entry))) ⌝ }
 {

@@ -1,4 +1,4 @@
--- What holds of anyBelow number below a bound, and of none: by induction on the bound.
+-- What holds of some number below a bound, and of none: by induction on the bound.
 use mathlib.Core.Path.{_≡_, refl, ap, ap₂, _∙_}
 use mathlib.Core.Bool.{Bool, true, false, _||_, or-true}
 use mathlib.Core.Logic.{⊎-elim}

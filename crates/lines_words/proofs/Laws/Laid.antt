@@ -1,4 +1,4 @@
--- The laws of writers: what one leaves, that one placeBehind another lays both texts, and what a caller learns from a place. By those of text laid over an area.
+-- The laws of writers: what one leaves, that one after another lays both texts, and what a caller learns from a place. By those of text laid over an area.
 use mathlib.Core.Path.{_≡_, refl, sym, ap, ap₂, _∙_}
 use mathlib.Core.List.{List, [], _∷_, _++_}
 use Prim.Native.Nat.{ℕ, _+_, _≤_, _<_}
@@ -34,8 +34,8 @@ laid-last xs at b l h = record { area = sym (overlaid-beyond xs at (b ∷ []) l)
 pub laid-length : {xs text ys : List ℕ} {at r : ℕ} → TextLaid xs at text ys r → length ys ≡ length xs
 laid-length {xs} {text} {ys} {at} {r} l = ap length (l .area) ∙ overlaid-length xs at text
 
--- ---- writers one placeBehind the other
--- one writer placeBehind another lays both texts
+-- ---- writers one after the other
+-- one writer after another lays both texts
 pub laid-more : {xs ys zs bs cs : List ℕ} {at p q : ℕ} → length xs ≤ top → TextLaid xs at bs ys p → TextLaid ys p cs zs q → TextLaid xs at (bs ++ cs) zs q
 laid-more {xs} {ys} {zs} {bs} {cs} {at} {p} {q} h l m =
     record {
