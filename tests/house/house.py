@@ -18,7 +18,7 @@ def surface():
     line = re.search(r"^Crates that outsiders call: (.*)$", text, re.M)
     if not line:
         raise SystemExit("README.md has no line 'Crates that outsiders call: ..'")
-    return re.findall(r"`(\w+)`", line.group(1))
+    return re.findall(r"`(\w+)`", line.group(1).split(". ")[0])
 
 
 def listed():
@@ -69,6 +69,31 @@ def specs():
             if file.lines:
                 out[crate, ".".join(path.relative_to(base).with_suffix("").parts)] = file
     return out
+
+
+def find(files, crate, place, name):
+    """The definition that a file has under a name: its own, or one that it hands on."""
+    file = files.get((crate, place))
+    if file is None:
+        return None
+    if name in file.lines:
+        return crate, place, name
+    if name in file.uses and file.uses[name] != (crate, place):
+        return find(files, *file.uses[name], name)
+    return None
+
+
+def cites(files, found):
+    """The definitions that a definition names."""
+    crate, place, name = found
+    file = files[crate, place]
+    for word in names_of("\n".join(file.lines[name])):
+        if word in file.lines:
+            yield crate, place, word
+        elif word in file.uses:
+            there = find(files, *file.uses[word], word)
+            if there:
+                yield there
 
 
 def functions(crate):

@@ -1,4 +1,4 @@
-// The fields of a table's body, written one behind the other into a lent part.
+// Inner: the fields of a table's body, written one behind the other into a lent part. Asks of its callers a part that is long enough, and fields in range.
 ghost use mathlib.Core.Path.{_≡_};
 ghost use mathlib.Core.List.{[], _∷_};
 ghost use Prim.Native.Nat.{_*_, _≤_};

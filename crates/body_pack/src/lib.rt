@@ -26,7 +26,7 @@ fn slot_at(live: u64, i: usize) -> usize
 }
 
 // `m` with its bits at the live slots packed in rising order.
-pub fn packed_mask(live: u64, m: u64) -> u64
+fn packed_mask(live: u64, m: u64) -> u64
     ensures { λ r. ⌜ r ≡ packedMask live m ⌝ }
 {
     let mut r: u64 = 0;

@@ -12,7 +12,7 @@ use Rattle.state.specs.Entry.{freshTable}
 use Rattle.state.specs.Normal.{Normal}
 use Rattle.state.specs.declared.State.{State}
 use Rattle.circuit.specs.Amplitude.{Amplitude}
-use Rattle.contents.specs.Contents.{countOf, kindOf, widthOf}
+use Rattle.contents.specs.Contents.{countOf, kindOf, widthOf, contentsNumber}
 use Rattle.body_fault.specs.Body.{bodyFault}
 use Rattle.body_read.specs.Table.{tableOf}
 use Rattle.book.specs.Book.{bytesOf, inputOf, outputOf, gatesOf, circuitBodyNumber, BookNumber}
@@ -66,6 +66,13 @@ pub record BodyAnswer (kind n : ℕ) (bs : List ℕ) (r : Body) : Type 0 where
   pub table : kind ≡ 2 → TableAnswer n bs r
 
 -- ---- a body of a book
+-- r is what body j answers once the contents are good, whatever the other bodies are
+pub record BodyAt (bs : List ℕ) (j : ℕ) (r : Body) : Type 0 where
+  pub refused : contentsNumber bs ≢ accepted → r ≡ refusal (contentsNumber bs)
+  -- 14: "no body of that number"
+  pub beyond : contentsNumber bs ≡ accepted → countOf bs ≤ j → r ≡ refusal noBody
+  pub answer : contentsNumber bs ≡ accepted → j < countOf bs → BodyAnswer (kindOf bs j) (widthOf bs j) (bytesOf bs j) r
+
 -- r is what reading body j answers. "the whole book is tested before any body is answered": "book refusals, then 14"
 pub record ReadsBody (bs : List ℕ) (j : ℕ) (r : Body) : Type 0 where
   pub number : ℕ

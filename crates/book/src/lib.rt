@@ -4,7 +4,7 @@ ghost use Prim.Native.Nat.{_<_};
 ghost use Rattle.contents.specs.Contents.{countOf, kindOf, widthOf, contentsNumber};
 ghost use Rattle.book.specs.Book.{bytesOf, circuitBodyNumber, TableNumber, BodyNumber, BookNumber};
 ghost use Rattle.book.specs.Inner.Said.{saidOf};
-ghost use Rattle.book.specs.Read.{refusal, CircuitAnswer, TableAnswer, BodyAnswer, ReadsBody};
+ghost use Rattle.book.specs.Read.{refusal, CircuitAnswer, TableAnswer, BodyAnswer, BodyAt, ReadsBody};
 use exact::Amount;
 use exact::Answer;
 use state::State;
@@ -77,8 +77,8 @@ fn table_body(part: &[u8], width: u8) -> Body
     }
 }
 
-// What body j of a book with good contents answers: for a caller that has tested the book and would not test it again.
-pub fn body_at(book: &[u8], j: usize) -> Body
+// What body j of a book with good contents answers.
+fn body_in(book: &[u8], j: usize) -> Body
     requires { ⌜ (contentsNumber (now book) ≡ 0) × (j < countOf (now book)) ⌝ }
     ensures { λ r. ⌜ BodyAnswer (kindOf (now (book .entry)) j) (widthOf (now (book .entry)) j) (bytesOf (now (book .entry)) j) r ⌝ }
 {
@@ -147,6 +147,20 @@ pub fn test(book: &[u8]) -> u8
     0
 }
 
+// What body j of a book answers once the contents are good, whatever its other bodies are: for a caller that has tested the book and would not test all of it again.
+pub fn body_at(book: &[u8], j: usize) -> Body
+    ensures { λ r. ⌜ BodyAt (now (book .entry)) j r ⌝ }
+{
+    let front = contents::test(book);
+    if front != 0 {
+        return refused(front);
+    }
+    if j >= contents::count(book) {
+        return refused(exact::NO_BODY);
+    }
+    body_in(book, j)
+}
+
 // Body j of a book: refused by the book's number, then by 14 where there is no such body.
 pub fn read(book: &[u8], j: usize) -> Body
     ensures { λ r. ⌜ ReadsBody (now (book .entry)) j r ⌝ }
@@ -154,9 +168,6 @@ pub fn read(book: &[u8], j: usize) -> Body
     let number = test(book);
     if number != 0 {
         return refused(number);
-    }
-    if j >= contents::count(book) {
-        return refused(exact::NO_BODY);
     }
     body_at(book, j)
 }

@@ -4,7 +4,7 @@ ghost use Rattle.doubles.specs.Inner.Steps.{repeated, startAt, stepped, 
 ghost use Rattle.doubles.specs.Answer.{answer, partsOf, answerOf};
 ghost use Rattle.doubles.specs.Inner.Answer.{answerFor};
 ghost use Rattle.doubles.specs.Entry.{DoublesAt};
-use table::Table;
+use state::State;
 
 // An entry's value: a refusal's number, plain zero, or two doubles, the real part first.
 pub enum Doubles {
@@ -103,8 +103,8 @@ fn of_answer(a: exact::Answer) -> Doubles
 }
 
 // A table's entry at an assignment as two doubles.
-pub fn of_entry(t: Table, x: u64) -> Doubles
-    ensures { λ r. ⌜ DoublesAt (t .state) x r ⌝ }
+pub fn of_entry(t: State, x: u64) -> Doubles
+    ensures { λ r. ⌜ DoublesAt t x r ⌝ }
 {
-    of_answer(t.entry(x))
+    of_answer(call_asking::entry(t, x))
 }

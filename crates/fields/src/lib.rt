@@ -1,4 +1,4 @@
-// Little-endian numbers, read from lent bytes and written at the front of a lent part.
+// Inner: little-endian numbers, read from lent bytes and written at the front of a lent part. Asks of its callers a part that is long enough for what is written; a read asks nothing.
 ghost use mathlib.Core.Path.{_≡_};
 ghost use mathlib.Core.List.{[], _∷_};
 ghost use Prim.Native.Nat.{_+_, _≤_, _<_};
@@ -75,7 +75,6 @@ fn write_number(part: &mut [u8], v: u64, n: usize)
     }
 }
 
-// The four writers below are for crates that have tested the room: each asks for a part that is long enough.
 // One byte at the front of the part.
 pub fn write_u8(part: &mut [u8], v: u8)
     requires { ⌜ 1 ≤ length (now part) ⌝ }

@@ -9,7 +9,7 @@ ghost use Rattle.lines_words.specs.Text.{digits, signedText};
 const TOP: usize = 18446744073709551615;
 
 // One byte at a place of the area. Answers the next place; beyond the area's end the byte is dropped, and the place counts it all the same.
-pub fn put_byte(area: &mut [u8], at: usize, b: u8) -> usize
+fn put_byte(area: &mut [u8], at: usize, b: u8) -> usize
     ensures { λ r. ⌜ TextLaid (now (area .entry)) at (b ∷ []) (now (area .exit)) r ⌝ }
 {
     if at < area.len() {

@@ -110,7 +110,7 @@ fn tied() {
 // "Doubles of (−1,1): 0.5 and 0.5."
 fn half() {
     let c = Table::fresh().scale(Power(-1), Eighth(1));
-    match doubles::of_entry(c.table, 0) {
+    match c.table.doubles(0) {
         Doubles::Refused(_) => {}
         Doubles::Zero => {}
         Doubles::Value(x, y) => {

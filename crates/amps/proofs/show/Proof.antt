@@ -22,6 +22,9 @@ slice-aggregate-write-all c = sym (length-take-le _ _ (listed-within _ _ _ _ (c 
 write-all-requires : tie.Need-write-all-requires
 write-all-requires c κs = search needs
 
+said-requires : tie.Need-said-requires
+said-requires c κs = search needs
+
 returns : tie.Need-returns
 returns c = search needs
 
@@ -34,4 +37,5 @@ show-spec =
     array-share-prefix-text
     slice-aggregate-write-all
     write-all-requires
+    said-requires
     returns)

@@ -16,11 +16,6 @@ use Rattle.book.specs.Book.{inputOf, outputOf, gatesOf, circuitBodyNumbe
 use Rattle.book.specs.Read.{Said, Body, body, refusal, CircuitAnswer}
 use Rattle.book.specs.Inner.Said.{saidOf}
 
--- a refusal is no amount
-given : Answer → ℕ
-given (NotGiven k) = 0
-given (Is a) = 1
-
 module _ (n : ℕ) (bs : List ℕ) where
   pub short-number : length bs < 8 → circuitBodyNumber n bs ≡ 11
   unfolding circuitBodyNumber
@@ -39,7 +34,6 @@ module _ (n : ℕ) (bs : List ℕ) where
 
   module _ (h : 8 ≤ length bs) where
     of-answer : (a : Answer) → Amplitude n (inputOf bs) (outputOf bs) (gatesOf bs) a → CircuitAnswer n bs (body (saidOf a) freshTable)
-    unfolding given
     of-answer (NotGiven k) A = record {
       refused = λ ne. ap refusal (A .number ∙ sym (long-number h));
       given = λ z. absurd (none z);
@@ -47,9 +41,7 @@ module _ (n : ℕ) (bs : List ℕ) where
     }
       where
         none : circuitBodyNumber n bs ≡ 0 → ⊥
-        none z =
-            let f : _≡_ {A = ℕ} 0 1 = ap given (A .answered (sym (long-number h) ∙ z)) in
-            omega (arith, f)
+        none z = A .value (sym (long-number h) ∙ z)
     of-answer (Is a) A = record {
       refused = λ ne. absurd (ne (long-number h ∙ sym (A .number)));
       given = λ z. refl;

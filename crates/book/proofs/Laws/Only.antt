@@ -11,12 +11,12 @@ use Rattle.exact.proofs.Laws.Sum.{split}
 use Rattle.bits.proofs.Laws.Bit.{same-or}
 use Rattle.state.specs.Normal.{Normal}
 use Rattle.circuit.proofs.Laws.Only.{one-amplitude}
-use Rattle.contents.specs.Contents.{countOf, widthOf, entryOf, contentsNumber}
+use Rattle.contents.specs.Contents.{countOf, kindOf, widthOf, entryOf, contentsNumber}
 use Rattle.contents.proofs.Laws.Good.{good}
 use Rattle.body_fault.specs.Body.{bodyFault}
 use Rattle.body_read.specs.Table.{tableOf}
 use Rattle.book.specs.Book.{inputOf, outputOf, gatesOf, bytesOf, circuitBodyNumber, TableNumber, BodyNumber, Clear, Refuses, BodiesNumber, BookNumber}
-use Rattle.book.specs.Read.{Body, saidNumber, saidAmount, refusal, circuitBody, CircuitAnswer, TableAnswer, ReadsBody}
+use Rattle.book.specs.Read.{Body, saidNumber, saidAmount, refusal, circuitBody, CircuitAnswer, TableAnswer, BodyAnswer, BodyAt, ReadsBody}
 use Rattle.book.proofs.Laws.Number.{contents-good}
 
 -- ---- a table's body
@@ -80,21 +80,28 @@ module _ (bs : List ℕ) where
   one-number k m K M =
       ⊎-elim (λ z. bodies-only z k m (K .bodies z) (M .bodies z)) (λ ne. K .contents ne ∙ sym (M .contents ne)) (same-or (contentsNumber bs) 0)
 
+  -- ---- what a body answers, where the contents are good
+  answer-only : contentsNumber bs ≡ 0 → (j : ℕ) → j < countOf bs → (r s : Body) → BodyAnswer (kindOf bs j) (widthOf bs j) (bytesOf bs j) r
+      → BodyAnswer (kindOf bs j) (widthOf bs j) (bytesOf bs j) s → r ≡ s
+  answer-only z j h r s a b =
+      ⊎-elim (λ c. circuit-answer (widthOf bs j) (bytesOf bs j) r s (a .circuit c) (b .circuit c))
+      (λ c. table-answer (widthOf bs j) (bytesOf bs j) r s (a .table c) (b .table c)) (good bs z .body j h (entryOf bs j) refl .kind)
+
+  pub one-body-at : (j : ℕ) (r s : Body) → BodyAt bs j r → BodyAt bs j s → r ≡ s
+  one-body-at j r s R S =
+      ⊎-elim
+      (λ z. ⊎-elim (λ h. answer-only z j h r s (R .answer z h) (S .answer z h)) (λ h. R .beyond z h ∙ sym (S .beyond z h)) (split j (countOf bs)))
+      (λ ne. R .refused ne ∙ sym (S .refused ne)) (same-or (contentsNumber bs) 0)
+
   -- ---- what reading a body answers
   module _ (j : ℕ) (r s : Body) (R : ReadsBody bs j r) (S : ReadsBody bs j s) where
     same : R .number ≡ S .number
     same = one-number (R .number) (S .number) (R .tested) (S .tested)
 
-    by-kind : R .number ≡ 0 → j < countOf bs → r ≡ s
-    by-kind z h =
-        let a = R .answer z h in
-        let b = S .answer (sym same ∙ z) h in
-        ⊎-elim (λ c. circuit-answer (widthOf bs j) (bytesOf bs j) r s (a .circuit c) (b .circuit c))
-        (λ c. table-answer (widthOf bs j) (bytesOf bs j) r s (a .table c) (b .table c))
-        (good bs (contents-good bs (R .number) (R .tested) z) .body j h (entryOf bs j) refl .kind)
-
     accepted-only : R .number ≡ 0 → r ≡ s
-    accepted-only z = ⊎-elim (λ h. by-kind z h) (λ h. R .beyond z h ∙ sym (S .beyond (sym same ∙ z) h)) (split j (countOf bs))
+    accepted-only z =
+        ⊎-elim (λ h. answer-only (contents-good bs (R .number) (R .tested) z) j h r s (R .answer z h) (S .answer (sym same ∙ z) h))
+        (λ h. R .beyond z h ∙ sym (S .beyond (sym same ∙ z) h)) (split j (countOf bs))
 
     refused-only : R .number ≢ 0 → r ≡ s
     refused-only ne = R .refused ne ∙ sym (S .refused (λ z. ne (same ∙ z)) ∙ ap refusal (sym same))

@@ -1,74 +1,55 @@
--- `body_at` meets its contract: good contents keep the part within the book, and the entry says its kind.
+-- `body_at` meets its contract: the number of the contents, then 14, then what the body answers.
 use borrow.Author.Needs.{needs}
 use native.Mathlib.Omega.{arith}
-use Rattle.book.proofs.Laws.Number.{entry-within, answer-circuit, answer-table, answer-at}
+use mathlib.Core.Path.{sym, _∙_}
+use Rattle.book.proofs.Laws.Read.{at-refused, at-beyond, at-answer}
 use Rattle.book.proofs.body_at.Statement.{statement}
 use Rattle.book.proofs.body_at.Tie as tie
 
-entry-at-requires : tie.Need-entry-at-requires
-entry-at-requires c κs = search needs
+test-requires : tie.Need-test-requires
+test-requires c κs = search needs
 
-add-to : tie.Need-add-to
-add-to c =
-    let s = c .before .before .before in
-    let w = entry-within (s .args .book .now) (s .args .j) (c .before .entry-at .result) (s .pre .0) (s .pre .1) (c .before .entry-at .ensures) in
-    omega (arith, w .0, w .1)
-
-sub-circuit-body : tie.Need-sub-circuit-body
-sub-circuit-body c = search needs
-
-part-circuit-body-start : tie.Need-part-circuit-body-start
-part-circuit-body-start c = search needs
-
-part-circuit-body-end : tie.Need-part-circuit-body-end
-part-circuit-body-end c =
-    let s = c .before .before .before .before .before in
-    let e = c .before .before .before .entry-at in
-    entry-within (s .args .book .now) (s .args .j) (e .result) (s .pre .0) (s .pre .1) (e .ensures) .0
-
-circuit-body-requires : tie.Need-circuit-body-requires
-circuit-body-requires c κs = search needs
+refused-requires : tie.Need-refused-requires
+refused-requires c κs = search needs
 
 returns : tie.Need-returns
 returns c =
-    let a = c .before .before .before .before .before .before .before .args in
-    let e = c .before .before .before .before .before .entry-at in
-    answer-at (a .book .now) (a .j) (e .result) (c .circuit-body .result) (e .ensures) (answer-circuit _ _ _ _ (c .before .before .if1 .taken) (c .circuit-body .ensures))
+    let a = c .before .before .before .before .args in
+    let t = c .before .before .test in
+    at-refused (a .book .now) (a .j) (c .refused .result) (t .result) (t .ensures) (c .before .if1 .taken) (c .refused .ensures)
 
-sub-table-body : tie.Need-sub-table-body
-sub-table-body c = search needs
+count-requires : tie.Need-count-requires
+count-requires c κs = search needs
 
-part-table-body-start : tie.Need-part-table-body-start
-part-table-body-start c = search needs
-
-part-table-body-end : tie.Need-part-table-body-end
-part-table-body-end c =
-    let s = c .before .before .before .before .before in
-    let e = c .before .before .before .entry-at in
-    entry-within (s .args .book .now) (s .args .j) (e .result) (s .pre .0) (s .pre .1) (e .ensures) .0
-
-table-body-requires : tie.Need-table-body-requires
-table-body-requires c κs = search needs
+refused-requires-2 : tie.Need-refused-requires-2
+refused-requires-2 c κs = search needs
 
 returns-2 : tie.Need-returns-2
 returns-2 c =
-    let a = c .before .before .before .before .before .before .before .args in
-    let e = c .before .before .before .before .before .entry-at in
-    answer-at (a .book .now) (a .j) (e .result) (c .table-body .result) (e .ensures) (answer-table _ _ _ _ (c .before .before .if1 .left) (c .table-body .ensures))
+    let a = c .before .before .before .before .before .before .args in
+    let t = c .before .before .before .before .test in
+    at-beyond (a .book .now) (a .j) (c .refused2 .result) (sym (t .ensures) ∙ c .before .before .before .if1 .left) (omega (arith, c .before .before .count .ensures)) (c .refused2 .ensures)
+
+body-in-requires : tie.Need-body-in-requires
+body-in-requires c κs =
+    let t = c .before .before .before .test in
+    (sym (t .ensures) ∙ c .before .before .if1 .left, omega (arith, c .before .count .ensures))
+
+returns-3 : tie.Need-returns-3
+returns-3 c =
+    let a = c .before .before .before .before .before .before .args in
+    let t = c .before .before .before .before .test in
+    at-answer (a .book .now) (a .j) (c .body-in .result) (sym (t .ensures) ∙ c .before .before .before .if1 .left) (omega (arith, c .before .before .count .ensures)) (c .body-in .ensures)
 
 pub body-at-spec : {M : Type 1} → statement M
 body-at-spec =
     tie.close
     (tie.spec
-    entry-at-requires
-    add-to
-    sub-circuit-body
-    part-circuit-body-start
-    part-circuit-body-end
-    circuit-body-requires
+    test-requires
+    refused-requires
     returns
-    sub-table-body
-    part-table-body-start
-    part-table-body-end
-    table-body-requires
-    returns-2)
+    count-requires
+    refused-requires-2
+    returns-2
+    body-in-requires
+    returns-3)

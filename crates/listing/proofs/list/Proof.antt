@@ -7,8 +7,7 @@ use lib.ListN.{length}
 use Rattle.lines_words.specs.Overlay.{top}
 use Rattle.lines.specs.Lines.{bookLine}
 use Rattle.lines_words.proofs.Laws.Laid.{laid-length, laid-text}
-use Rattle.book.proofs.Laws.Number.{contents-good}
-use Rattle.book.proofs.Laws.Read.{reads-answer}
+use Rattle.book.proofs.Laws.Read.{reads-at}
 use Rattle.listing.proofs.Laws.Sofar.{Sofar, few, narrow, begun, grown, whole, single}
 use Rattle.listing.proofs.list.Statement.{statement}
 use Rattle.listing.proofs.list.Tie as tie
@@ -51,10 +50,7 @@ loop-holds : tie.Need-loop-holds Inv-loop μ-loop
 loop-holds c = (omega arith, begun _ _ _ (omega arith))
 
 body-at-requires : tie.Need-body-at-requires Inv-loop μ-loop
-body-at-requires c κs =
-    let e = c .before .before in
-    let t = e .before .before .before .before .before .before .test in
-    (contents-good (e .before .before .before .before .before .before .before .before .before .args .book .now) (t .result) (t .ensures) (e .before .before .before .before .before .if1 .left), omega (arith, e .before .before .before .before .count .ensures))
+body-at-requires c κs = search needs
 
 cast-body-line : tie.Need-cast-body-line Inv-loop μ-loop
 cast-body-line c =
@@ -78,10 +74,9 @@ loop-again c =
     let e = c .before .before .before .before .before .before .before in
     let t = e .before .before .before .before .before .before .test in
     let bs = e .before .before .before .before .before .before .before .before .before .args .book .now in
-    let n = e .before .before .before .before .count in
     let b = c .before .before .before .before .body-at in
     let short : length (e .before .before .before .before .before .before .before .before .before .args .area .now) ≤ top = omega (arith, e .before .before .before .before .before .before .before .before .before .good .1 .0) in
-    (omega arith, grown bs _ _ (l .j) (narrow (e .before .before .book-line .ensures) short) _ _ _ _ (b .result) (l .inv .1) (reads-answer bs (l .j) (t .result) (b .result) (t .ensures) (e .before .before .before .before .before .if1 .left) (omega (arith, n .ensures)) (b .ensures)) (c .before .before .body-line .ensures))
+    (omega arith, grown bs _ _ (l .j) (narrow (e .before .before .book-line .ensures) short) _ _ _ _ (b .result) (l .inv .1) (reads-at bs (l .j) (t .result) (b .result) (t .ensures) (e .before .before .before .before .before .if1 .left) (b .ensures)) (c .before .before .body-line .ensures))
 
 same-length-2 : tie.Need-same-length-2 Inv-loop μ-loop
 same-length-2 c = laid-length (c .before .loop .inv .1 .laid) ∙ laid-length (c .before .before .before .before .book-line .ensures)
