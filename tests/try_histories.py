@@ -37,7 +37,7 @@ def record(code, i, j=0, small=0, place=0, number=0):
 def copied(i, j):
     """Table i becomes what table j is."""
     record(COPY, i, j)
-    tables[i], looks[i] = tables[j].copy(), looks[j]
+    tables[i] = tables[j].copy()
 
 
 def looked_at(i, after):
@@ -64,10 +64,9 @@ def called(i, j, call):
     tables[i] = after
     spread = 0 if after.spoilt else after.spread()
     kept, tidy = (1, 0) if after.spoilt else (int(after.same(before)), 1)
-    h = word(12 if after.spoilt else 0, after.live())
-    for v in places:
-        h = word(h, v)
-    lines.append(f"{n} {slot} {spread} {kept} {tidy} {entries(h, after, looks[i], len(records) - 1) % 2**32:08x}")
+    h = entries(word(12 if after.spoilt else 0, after.live()), after, looks[i], len(records) - 1)
+    beside = [slot] if name == "new_bit" else [placed(places)] if name == "join" else []
+    lines.append(" ".join(map(str, [n, *beside, spread, kept, tidy, f"{h % 2**32:08x}"])))
 
 
 def asked(i, x):
@@ -86,6 +85,13 @@ def asked(i, x):
 
 def amount(h, a):
     return word(h, 1 << 63) if a is None else word(word(h, abs(a[0])), a[1] ^ (WORD if a[0] < 0 else 0))
+
+
+def placed(places):
+    h = 0
+    for v in places:
+        h = word(h, v)
+    return h % 2**32
 
 
 def entries(h, t, look, n):

@@ -7,6 +7,7 @@ use Rattle.exact.specs.declared.Amount.{Amount}
 use Rattle.exact.specs.declared.Amount.the-variants.{Some}
 use Rattle.doubles.specs.Power.{rootPower}
 use Rattle.doubles.specs.Parts.{plusZero, realPart, imaginaryPart, clamped}
+use Rattle.exact.specs.declared.Amount.the-variants.{Zero as NoAmount}
 pub use Rattle.doubles.specs.declared.Doubles.{Doubles}
 pub use Rattle.doubles.specs.declared.Doubles.the-variants.{Refused, Zero, Value}
 

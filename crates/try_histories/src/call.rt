@@ -1,4 +1,6 @@
-// A call that a record says, made on the library, and all that it answered.
+// A call that a record says, made on the library.
+use super::digest;
+use super::print;
 use super::record;
 use super::record::Record;
 use exact::Eighth;
@@ -7,56 +9,41 @@ use exact::Slot;
 use table::Changed;
 use table::Table;
 
-// The table, the number of refusal or 0, the slot of a new bit and the places of a join; 64 where the call answers none.
-pub(crate) struct Reply {
-    pub table: Table,
-    pub refusal: u8,
-    pub slot: usize,
-    pub places: [u8; 64],
-}
-
-// The answer of a call that changes a table.
-fn changed(c: Changed) -> Reply {
-    let t = c.table;
-    Reply {
-        table: t,
-        refusal: c.refusal,
-        slot: 64,
-        places: [64; 64],
+// A call that answers nothing but the table.
+fn changed(r: Record, t: Table) -> Changed {
+    let v = Slot(r.word as usize);
+    let code = r.code;
+    match code {
+        1 => t.quarter(v, Quarter(r.small)),
+        2 => t.sign(v, Slot(r.place as usize)),
+        3 => t.scale(record::power(r.word), Eighth(r.small)),
+        4 => t.tie(r.word, r.small),
+        5 => t.sum(v),
+        _ => t.fix(v, r.small),
     }
 }
 
-// The call of a code below 8 on `t`, a join with `other`.
-pub(crate) fn made(r: Record, t: Table, other: Table) -> Reply {
-    let v = Slot(r.word as usize);
+// The table after the call of a code below 8 on `t`, a join with `other`; what else it answers is printed: the number of refusal or 0, the slot of a new bit, the places of a join.
+pub(crate) fn made(r: Record, t: Table, other: Table) -> Table {
     let code = r.code;
     match code {
         0 => {
             let o = t.new_bit();
-            let after = o.table;
-            Reply {
-                table: after,
-                refusal: o.refusal,
-                slot: o.slot.0,
-                places: [64; 64],
-            }
+            print::number(o.refusal as u64);
+            print::number(o.slot.0 as u64);
+            o.table
         }
-        1 => changed(t.quarter(v, Quarter(r.small))),
-        2 => changed(t.sign(v, Slot(r.place as usize))),
-        3 => changed(t.scale(record::power(r.word), Eighth(r.small))),
-        4 => changed(t.tie(r.word, r.small)),
-        5 => changed(t.sum(v)),
-        6 => changed(t.fix(v, r.small)),
-        _ => {
+        7 => {
             let j = t.join(other);
-            let after = j.table;
             let places = j.places;
-            Reply {
-                table: after,
-                refusal: j.refusal,
-                slot: 64,
-                places: places,
-            }
+            print::number(j.refusal as u64);
+            print::number(digest::places(places) % 4294967296);
+            j.table
+        }
+        _ => {
+            let c = changed(r, t);
+            print::number(c.refusal as u64);
+            c.table
         }
     }
 }

@@ -10,7 +10,7 @@ fn amount(h: u64, a: Amount) -> u64 {
     match a {
         Amount::Zero => try_draw::word(h, 0x8000000000000000),
         Amount::Some(power, phase) => {
-            let sized = try_draw::word(h, lines::size(power.0));
+            let sized = try_draw::word(h, lines_words::size(power.0));
             let turns = phase.0 as u64;
             try_draw::word(sized, if power.0 < 0 { !turns } else { turns })
         }
@@ -43,9 +43,9 @@ pub(crate) fn entries(before: u64, t: Table, look: u64, n: u64) -> u64 {
     h
 }
 
-// The places of a join taken into a digest.
-pub(crate) fn places(before: u64, places: [u8; 64]) -> u64 {
-    let mut h = before;
+// The places of a join.
+pub(crate) fn places(places: [u8; 64]) -> u64 {
+    let mut h: u64 = 0;
     let mut v: usize = 0;
     while v < 64 {
         h = try_draw::word(h, places[v] as u64);

@@ -1,11 +1,9 @@
 // A record of standard input: twelve bytes that say a call, a question, or what to put where.
 use exact::Power;
 
-// How many bytes a record has.
-pub(crate) const SIZE: usize = 12;
-
-// A code, the table that it is about and a second one, a small number, a place, and a word.
+// A code, the table that it is about and a second one, a small number, a place, and a word; nothing of it counts where the input has ended.
 pub(crate) struct Record {
+    pub ended: bool,
     pub code: u8,
     pub table: u8,
     pub other: u8,
@@ -14,16 +12,19 @@ pub(crate) struct Record {
     pub word: u64,
 }
 
-// The record of twelve bytes: both tables in the second of them, the word in the last eight.
-pub(crate) fn read(bytes: &[u8]) -> Record {
-    let tables = fields::read_u8(bytes, 1);
+// The next record: both tables in its second byte, the word in the last eight.
+pub(crate) fn next() -> Record {
+    let mut bytes = [0u8; 12];
+    let n = io::read_full(0, &mut bytes);
+    let tables = fields::read_u8(&bytes, 1);
     Record {
-        code: fields::read_u8(bytes, 0),
+        ended: n < 12,
+        code: fields::read_u8(&bytes, 0),
         table: tables % 8,
         other: tables / 8 % 8,
-        small: fields::read_u8(bytes, 2),
-        place: fields::read_u8(bytes, 3),
-        word: fields::read_u64(bytes, 4),
+        small: fields::read_u8(&bytes, 2),
+        place: fields::read_u8(&bytes, 3),
+        word: fields::read_u64(&bytes, 4),
     }
 }
 

@@ -14,6 +14,9 @@ use Rattle.call_answers.specs.Answers.{EntryAt}
 use Rattle.doubles.specs.Answer.{Doubles, Answer, answer, partsOf, answerOf}
 use Rattle.doubles.specs.Inner.Answer.{answerFor}
 use Rattle.doubles.specs.Entry.{DoublesAt}
+use Rattle.exact.specs.declared.Answer.{Answer as Asked}
+use Rattle.exact.specs.declared.Answer.the-variants.{Refused as NotGiven, Is as Given}
+use Rattle.exact.specs.declared.Amount.the-variants.{Zero as NoAmount}
 
 -- an amount's answer is no refusal
 amount-number : (a : Amount) → answerOf a .number ≡ accepted

@@ -7,7 +7,7 @@ use Rattle.bits.proofs.Laws.Bit.{same-or}
 use Rattle.contents.specs.Contents.{countOf}
 use Rattle.lines.specs.Lines.{bookLine, refusedLine}
 use Rattle.lines_words.proofs.Laws.Laid.{laid-text}
-use Rattle.lines_words.proofs.Laws.Only.{one-text}
+use Rattle.lines_words.proofs.Laws.Only.{one-overlay}
 use Rattle.book.proofs.Laws.Only.{one-number, one-body}
 use Rattle.listing.specs.Listing.{bodyLines, Listing, Listed}
 use Rattle.listing.proofs.Laws.Sofar.{lines-same}
@@ -28,4 +28,4 @@ module _ (bs text more : List ℕ) (L : Listing bs text) (M : Listing bs more) w
 
 pub one-listing : (bs xs ys zs : List ℕ) (p q : ℕ) → Listed bs xs ys p → Listed bs xs zs q → (ys ≡ zs) × (p ≡ q)
 one-listing bs xs ys zs p q L M =
-    one-text (laid-text (one-text bs (L .text) (M .text) (L .listing) (M .listing)) (L .laid)) (M .laid)
+    one-overlay (laid-text (one-text bs (L .text) (M .text) (L .listing) (M .listing)) (L .laid)) (M .laid)

@@ -5,10 +5,10 @@ use Rattle.try_histories.proofs.main.Statement.{statement}
 use Rattle.try_histories.proofs.main.Tie as tie
 
 abbrev Inv-loop : tie.InvT-loop
-Inv-loop seats₀ n₀ seats n = n ≤ 100000
+Inv-loop tables₀ looks₀ n₀ tables looks n = n ≤ 100000
 
 abbrev μ-loop : tie.MeasureT-loop
-μ-loop seats₀ n₀ seats n = 100000 - n
+μ-loop tables₀ looks₀ n₀ tables looks n = 100000 - n
 
 fresh-requires : tie.Need-fresh-requires Inv-loop μ-loop
 fresh-requires c κs = search needs
@@ -16,20 +16,11 @@ fresh-requires c κs = search needs
 loop-holds : tie.Need-loop-holds Inv-loop μ-loop
 loop-holds c = search needs
 
-slice-aggregate-read-full : tie.Need-slice-aggregate-read-full Inv-loop μ-loop
-slice-aggregate-read-full c = search needs
-
-read-full-requires : tie.Need-read-full-requires Inv-loop μ-loop
-read-full-requires c κs = search needs
+next-requires : tie.Need-next-requires Inv-loop μ-loop
+next-requires c κs = search needs
 
 returns : tie.Need-returns Inv-loop μ-loop
 returns c = search needs
-
-slice-aggregate-read : tie.Need-slice-aggregate-read Inv-loop μ-loop
-slice-aggregate-read c = search needs
-
-read-requires : tie.Need-read-requires Inv-loop μ-loop
-read-requires c κs = search needs
 
 cast-i : tie.Need-cast-i Inv-loop μ-loop
 cast-i c = search needs
@@ -37,26 +28,44 @@ cast-i c = search needs
 cast-j : tie.Need-cast-j Inv-loop μ-loop
 cast-j c = search needs
 
-mul-a : tie.Need-mul-a Inv-loop μ-loop
-mul-a c = search needs
+mul-looks : tie.Need-mul-looks Inv-loop μ-loop
+mul-looks c = search needs
 
-array-copy-out-a : tie.Need-array-copy-out-a Inv-loop μ-loop
-array-copy-out-a c = search needs
+array-read-looks : tie.Need-array-read-looks Inv-loop μ-loop
+array-read-looks c = search needs
 
-mul-b : tie.Need-mul-b Inv-loop μ-loop
-mul-b c = search needs
+mul-looks-2 : tie.Need-mul-looks-2 Inv-loop μ-loop
+mul-looks-2 c = search needs
 
-array-copy-out-b : tie.Need-array-copy-out-b Inv-loop μ-loop
-array-copy-out-b c = search needs
+array-write-looks : tie.Need-array-write-looks Inv-loop μ-loop
+array-write-looks c = search needs
+
+mul-t : tie.Need-mul-t Inv-loop μ-loop
+mul-t c = search needs
+
+array-copy-out-t : tie.Need-array-copy-out-t Inv-loop μ-loop
+array-copy-out-t c = search needs
+
+mul-other : tie.Need-mul-other Inv-loop μ-loop
+mul-other c = search needs
+
+array-copy-out-other : tie.Need-array-copy-out-other Inv-loop μ-loop
+array-copy-out-other c = search needs
+
+mul-step : tie.Need-mul-step Inv-loop μ-loop
+mul-step c = search needs
+
+array-read-step : tie.Need-array-read-step Inv-loop μ-loop
+array-read-step c = search needs
 
 step-requires : tie.Need-step-requires Inv-loop μ-loop
 step-requires c κs = search needs
 
-mul-seats : tie.Need-mul-seats Inv-loop μ-loop
-mul-seats c = search needs
+mul-tables : tie.Need-mul-tables Inv-loop μ-loop
+mul-tables c = search needs
 
-array-set-from-seats : tie.Need-array-set-from-seats Inv-loop μ-loop
-array-set-from-seats c = search needs
+array-set-from-tables : tie.Need-array-set-from-tables Inv-loop μ-loop
+array-set-from-tables c = search needs
 
 add-n : tie.Need-add-n Inv-loop μ-loop
 add-n c = search needs
@@ -78,20 +87,23 @@ main-spec =
     μ-loop
     fresh-requires
     loop-holds
-    slice-aggregate-read-full
-    read-full-requires
+    next-requires
     returns
-    slice-aggregate-read
-    read-requires
     cast-i
     cast-j
-    mul-a
-    array-copy-out-a
-    mul-b
-    array-copy-out-b
+    mul-looks
+    array-read-looks
+    mul-looks-2
+    array-write-looks
+    mul-t
+    array-copy-out-t
+    mul-other
+    array-copy-out-other
+    mul-step
+    array-read-step
     step-requires
-    mul-seats
-    array-set-from-seats
+    mul-tables
+    array-set-from-tables
     add-n
     loop-less
     loop-again

@@ -5,10 +5,10 @@ use Rattle.try_histories.proofs.digest.places.Statement.{statement}
 use Rattle.try_histories.proofs.digest.places.Tie as tie
 
 abbrev Inv-loop : tie.InvT-loop
-Inv-loop before places h₀ v₀ h v = v ≤ 64
+Inv-loop places h₀ v₀ h v = v ≤ 64
 
 abbrev μ-loop : tie.MeasureT-loop
-μ-loop before places h₀ v₀ h v = 64 - v
+μ-loop places h₀ v₀ h v = 64 - v
 
 loop-holds : tie.Need-loop-holds Inv-loop μ-loop
 loop-holds c = search needs
