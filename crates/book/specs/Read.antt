@@ -38,7 +38,7 @@ body s t = record { said = s; table = t }
 abbrev pub refusal : ℕ → Body
 refusal k = body (Refused k) freshTable
 
--- "the circuit's circuitBody, with the fresh table in the table's place"
+-- "the circuit's amplitude, with the fresh table in the table's place"
 abbrev pub circuitBody : Amount → Body
 circuitBody a = body (Circuit a) freshTable
 
@@ -66,7 +66,7 @@ pub record BodyAnswer (kind n : ℕ) (bs : List ℕ) (r : Body) : Type 0 where
   pub table : kind ≡ 2 → TableAnswer n bs r
 
 -- ---- a body of a book
--- r is what reading body j answers. "the tableBody book is tested before any body is answered": "book refusals, then 14"
+-- r is what reading body j answers. "the whole book is tested before any body is answered": "book refusals, then 14"
 pub record ReadsBody (bs : List ℕ) (j : ℕ) (r : Body) : Type 0 where
   pub number : ℕ
   pub tested : BookNumber bs number
