@@ -1,4 +1,4 @@
--- Read this first: from a book's bytes to its listing's text in one statement, `Text`. No struct of the code stands in it: bytes, matrices, whole numbers, the entry's formula and text.
+-- Read this first: from a book's bytes to its listing's text in one statement, `Text` at the end. No struct of the code stands in this file: only bytes, matrices, whole numbers, text, and an amount (zero, or power and phase).
 -- What `listing::list` promises is this text (`bytes-to-text`), no second text satisfies it (`one-text`), and a table that was read has the entries that its bytes state (`bytes-to-entry`).
 use mathlib.Core.Bool.{Bool, true, false, cond}
 use mathlib.Core.List.{List, [], _++_}

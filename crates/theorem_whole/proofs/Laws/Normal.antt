@@ -50,14 +50,15 @@ module _ (n : ℕ) (bs : List ℕ) (f : Fine n bs) where
   marked : T .zero ≡ true → markOf bs ≡ 1
   marked e = eqb-true _ _ (sym zero-is ∙ e)
 
+  -- a lead lies below the width
+  lead-low : (j : ℕ) → j < tieCount n bs → maskOf n bs j ≢ 0 → leadOf n bs j < n
+  lead-low j l ne = ⊎-elim (λ (q : leadOf n bs j < n). q) (λ (q : n ≤ leadOf n bs j). absurd (omega (arith, at .1, bit-above n (maskOf n bs j) (leadOf n bs j) (f .mask j l) q))) (split (leadOf n bs j) n)
+    where
+      at : (leadOf n bs j < 64) × (bit (maskOf n bs j) (leadOf n bs j) ≡ 1)
+      at = trailing-at 64 (maskOf n bs j) (omega (arith, ne)) (lt-of-lt-of-le (f .mask j l) (pow-mono (f .narrow)))
+
   -- ---- from the table to the bytes
   module _ (N : Normal T) where
-    lead-low : (j : ℕ) → j < tieCount n bs → maskOf n bs j ≢ 0 → leadOf n bs j < n
-    lead-low j l ne = ⊎-elim (λ (q : leadOf n bs j < n). q) (λ (q : n ≤ leadOf n bs j). absurd (omega (arith, at .1, bit-above n (maskOf n bs j) (leadOf n bs j) (f .mask j l) q))) (split (leadOf n bs j) n)
-      where
-        at : (leadOf n bs j < 64) × (bit (maskOf n bs j) (leadOf n bs j) ≡ 1)
-        at = trailing-at 64 (maskOf n bs j) (omega (arith, ne)) (lt-of-lt-of-le (f .mask j l) (pow-mono (f .narrow)))
-
     full : (j : ℕ) → j < tieCount n bs → maskOf n bs j ≢ 0
     full j l e = N .reduced .full j (up l) (tie-is n bs f j l ∙ e)
 
@@ -82,12 +83,6 @@ module _ (n : ℕ) (bs : List ℕ) (f : Fine n bs) where
   module _ (B : NormalBody n bs) where
     low : (v : ℕ) → Free T v → n ≤ v
     low v e = ⊎-elim (λ (q : v < n). absurd (omega (arith, live-below n bs v q, e))) (λ (q : n ≤ v). q) (split v n)
-
-    lead-in : (j : ℕ) → j < tieCount n bs → leadOf n bs j < n
-    lead-in j l = ⊎-elim (λ (q : leadOf n bs j < n). q) (λ (q : n ≤ leadOf n bs j). absurd (omega (arith, at .1, bit-above n (maskOf n bs j) (leadOf n bs j) (f .mask j l) q))) (split (leadOf n bs j) n)
-      where
-        at : (leadOf n bs j < 64) × (bit (maskOf n bs j) (leadOf n bs j) ≡ 1)
-        at = trailing-at 64 (maskOf n bs j) (omega (arith, B .full j l)) (lt-of-lt-of-le (f .mask j l) (pow-mono (f .narrow)))
 
     -- a sign with a slot from n on is none
     row-out : (u v : ℕ) → n ≤ u → bit (row T v) u ≡ 0
@@ -162,8 +157,8 @@ module _ (n : ℕ) (bs : List ℕ) (f : Fine n bs) where
       free-turn = λ v e. turn-beyond n bs v (low v e);
       free-row = λ v e. row-beyond n bs v (low v e);
       free-tie = free-tie;
-      lead-turn = λ j l. ap (turn T) (lead-is n bs f j (down l)) ∙ turn-is n bs f (leadOf n bs j) (lead-in j (down l)) ∙ B .lead-turn j (down l);
-      lead-row = λ j l. ap (row T) (lead-is n bs f j (down l)) ∙ row-is n bs f (leadOf n bs j) (lead-in j (down l)) ∙ B .lead-row j (down l);
+      lead-turn = λ j l. ap (turn T) (lead-is n bs f j (down l)) ∙ turn-is n bs f (leadOf n bs j) (lead-low j (down l) (B .full j (down l))) ∙ B .lead-turn j (down l);
+      lead-row = λ j l. ap (row T) (lead-is n bs f j (down l)) ∙ row-is n bs f (leadOf n bs j) (lead-low j (down l) (B .full j (down l))) ∙ B .lead-row j (down l);
       zero-power = λ e. power-is n bs ∙ B .zero-power (marked e);
       zero-phase = λ e. phase-is n bs ∙ B .zero-phase (marked e);
       zero-ties = λ e. count-is ∙ B .zero-ties (marked e);
