@@ -1,0 +1,6 @@
+pub mod Lines
+pub mod Entry
+pub mod Normal
+pub mod Refusal
+pub mod Text
+pub mod Start

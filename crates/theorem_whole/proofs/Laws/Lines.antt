@@ -1,0 +1,68 @@
+-- The line of a body that is not refused, from what reading it promises: a circuit's by the matrices, a table's by its bytes.
+use mathlib.Core.Bool.{Bool, true, false, cond}
+use mathlib.Core.List.{List}
+use mathlib.Core.Path.{_≡_, refl, _∙_, ap}
+use Prim.Native.Nat.{ℕ, zero, suc, _-_, _^_}
+use native.Mathlib.Omega.{arith}
+use lib.Count.{ones}
+use lib.Dec.{ltb}
+use lib.ListN.{length}
+use lib.Pow.{pow-pos}
+use Rattle.exact.specs.Refusal.{accepted, badBody}
+use Rattle.exact.specs.Sum.{total}
+use Rattle.exact.proofs.Laws.Sum.{total-ext}
+use Rattle.bits.specs.Mask.{bit}
+use Rattle.bits.proofs.Laws.First.{first-bit}
+use Rattle.bits.proofs.Laws.Parity.{ones-total}
+use Rattle.gates.specs.Circuit.{circuitNumber}
+use Rattle.body_fault.specs.Body.{tieCount, bodyFault}
+use Rattle.body_read.specs.Table.{formOf, tiesOf, tableOf}
+use Rattle.book.specs.declared.Body.{Body}
+use Rattle.book.specs.Book.{inputOf, outputOf, gatesOf, circuitBodyNumber, TableNumber}
+use Rattle.book.specs.Read.{saidAmount, CircuitAnswer, TableAnswer}
+use Rattle.lines.specs.Lines.{tableLine}
+use Rattle.listing.specs.Listing.{bodyLine}
+use Rattle.theorem_whole.specs.Text.{CircuitLine, stated}
+
+-- the mask of the n lowest bits has n of them
+total-ones : (n : ℕ) → total n (λ v. 1) ≡ n
+unfolding total
+total-ones zero = refl
+total-ones (suc n) = omega (arith, total-ones n)
+
+ones-low : (n : ℕ) → ones (2 ^ n - 1) ≡ n
+ones-low n = ones-total n (2 ^ n - 1) (omega (arith, pow-pos n)) ∙ total-ext n (bit (2 ^ n - 1)) (λ v. 1) (first-bit n) ∙ total-ones n
+
+-- ---- a circuit's line
+pub circuit-line : (n j : ℕ) (bs : List ℕ) (r : Body) → circuitBodyNumber n bs ≡ accepted → circuitNumber n (inputOf bs) (outputOf bs) (gatesOf bs) ≡ accepted → CircuitAnswer n bs r → CircuitLine n bs j (bodyLine j (r .said) (r .table))
+unfolding bodyLine
+circuit-line n j bs r z w A = record {
+  amount = saidAmount (r .said);
+  small = A .value z .small;
+  value = A .value z .value w;
+  text = ap (λ (b : Body). bodyLine j (b .said) (b .table)) (A .given z);
+}
+
+-- a body of a circuit that is not refused has room for its strings, and its circuit is not refused
+pub circuit-passed : (n : ℕ) (bs : List ℕ) → circuitBodyNumber n bs ≡ accepted → circuitNumber n (inputOf bs) (outputOf bs) (gatesOf bs) ≡ accepted
+unfolding circuitBodyNumber
+circuit-passed n bs z = go (ltb (length bs) 8) z
+  where
+    go : (b : Bool) → cond b badBody (circuitNumber n (inputOf bs) (outputOf bs) (gatesOf bs)) ≡ accepted → circuitNumber n (inputOf bs) (outputOf bs) (gatesOf bs) ≡ accepted
+    go true e = absurd (omega (arith, e))
+    go false e = e
+
+-- ---- a table's line
+pub table-line : (n j : ℕ) (bs : List ℕ) (r : Body) → TableNumber n bs accepted → TableAnswer n bs r
+    → bodyLine j (r .said) (r .table) ≡ tableLine j n (tieCount n bs) (stated bs)
+unfolding bodyLine tableOf formOf tiesOf
+table-line n j bs r T A =
+    ap (λ (b : Body). bodyLine j (b .said) (b .table)) (A .sound fine (T .normal refl))
+    ∙ ap (λ (k : ℕ). tableLine j k (tieCount n bs) (stated bs)) (ones-low n)
+  where
+    fine : bodyFault n bs ≡ false
+    fine = go (bodyFault n bs) refl
+      where
+        go : (b : Bool) → bodyFault n bs ≡ b → bodyFault n bs ≡ false
+        go true e = absurd (let q : accepted ≡ badBody = T .fault e in omega (arith, q))
+        go false e = e

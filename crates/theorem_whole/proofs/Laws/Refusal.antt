@@ -1,0 +1,57 @@
+-- The number of a book by its bytes is the number that the library's promises name, both ways.
+use mathlib.Core.Bool.{Bool, true, false}
+use mathlib.Core.List.{List}
+use mathlib.Core.Logic.{inl, inr}
+use mathlib.Core.Path.{_≡_, refl}
+use Prim.Native.Nat.{ℕ}
+use native.Mathlib.Omega.{arith}
+use Rattle.exact.specs.Refusal.{accepted, badBody}
+use Rattle.contents.specs.Contents.{countOf, widthOf}
+use Rattle.body_fault.specs.Body.{bodyFault}
+use Rattle.body_fault.proofs.Laws.Fine.{fine}
+use Rattle.book.specs.Book.{bytesOf, TableNumber, BodyNumber, BodiesNumber, BookNumber}
+use Rattle.theorem_whole.specs.Text.{TableRefusal, BodyRefusal, FirstRefusal, BookRefusal}
+use Rattle.theorem_whole.proofs.Laws.Normal.{to-bytes, from-bytes}
+
+-- a number that accepts is not 11's
+pub unfaulted : (f : Bool) (k : ℕ) → k ≡ accepted → (f ≡ true → k ≡ badBody) → f ≡ false
+unfaulted true k z h = absurd (omega (arith, z, h refl))
+unfaulted false k z h = refl
+
+-- ---- from the promises to the bytes
+table-to : (n : ℕ) (bs : List ℕ) (k : ℕ) → TableNumber n bs k → TableRefusal n bs k
+table-to n bs k N = record {
+  fault = N .fault;
+  broken = λ h b. N .broken h (λ t. b (to-bytes n bs (fine n bs h) t));
+  sound = λ h b. N .sound h (from-bytes n bs (fine n bs h) b);
+  normal = λ z. to-bytes n bs (fine n bs (unfaulted (bodyFault n bs) k z (N .fault))) (N .normal z);
+}
+
+body-to : (bs : List ℕ) (j k : ℕ) → BodyNumber bs j k → BodyRefusal bs j k
+body-to bs j k N = record { circuit = N .circuit; table = λ e. table-to (widthOf bs j) (bytesOf bs j) k (N .table e) }
+
+pub book-to : (bs : List ℕ) (k : ℕ) → BookNumber bs k → BookRefusal bs k
+book-to bs k N = record { contents = N .contents; bodies = λ z. go (N .bodies z) }
+  where
+    go : BodiesNumber bs k → FirstRefusal bs (countOf bs) k
+    go (inl c) = inl (c .0, λ i l. body-to bs i accepted (c .1 i l))
+    go (inr r) = inr (r .at, r .below, λ i l. body-to bs i accepted (r .before i l), body-to bs (r .at) k (r .here), r .refused)
+
+-- ---- and back
+table-from : (n : ℕ) (bs : List ℕ) (k : ℕ) → TableRefusal n bs k → TableNumber n bs k
+table-from n bs k N = record {
+  fault = N .fault;
+  broken = λ h b. N .broken h (λ t. b (from-bytes n bs (fine n bs h) t));
+  sound = λ h b. N .sound h (to-bytes n bs (fine n bs h) b);
+  normal = λ z. from-bytes n bs (fine n bs (unfaulted (bodyFault n bs) k z (N .fault))) (N .normal z);
+}
+
+body-from : (bs : List ℕ) (j k : ℕ) → BodyRefusal bs j k → BodyNumber bs j k
+body-from bs j k N = record { circuit = N .circuit; table = λ e. table-from (widthOf bs j) (bytesOf bs j) k (N .table e) }
+
+pub book-from : (bs : List ℕ) (k : ℕ) → BookRefusal bs k → BookNumber bs k
+book-from bs k N = record { contents = N .contents; bodies = λ z. go (N .bodies z) }
+  where
+    go : FirstRefusal bs (countOf bs) k → BodiesNumber bs k
+    go (inl c) = inl (c .0, λ i l. body-from bs i accepted (c .1 i l))
+    go (inr (j, l, b, h, r)) = inr (record { at = j; below = l; before = λ i q. body-from bs i accepted (b i q); here = body-from bs j k h; refused = r })
