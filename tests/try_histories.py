@@ -62,9 +62,9 @@ def called(i, j, call):
         (number,) = given
     record(CALLS.index(name), i, j, small, place, number)
     tables[i] = after
-    spread = 0 if after.spoilt else after.spread()
+    spread = "refused 12" if after.spoilt else "none" if after.spread() is None else after.spread()
     kept, tidy = (1, 0) if after.spoilt else (int(after.same(before)), 1)
-    h = entries(word(12 if after.spoilt else 0, after.live()), after, looks[i], len(records) - 1)
+    h = entries(word(0, after.live()), after, looks[i], len(records) - 1)
     beside = [slot] if name == "new_bit" else [placed(places)] if name == "join" else []
     lines.append(" ".join(map(str, [n, *beside, spread, kept, tidy, f"{h % 2**32:08x}"])))
 

@@ -28,10 +28,10 @@ fn show(before: Table, t: Table, look: u64, n: u64) {
     let after = t.state;
     let spread = t.spread();
     let kept = digest::fields(s) == digest::fields(after);
-    print::number(spread.spread as u64);
+    print::spread(spread);
     print::number(if kept { 1 } else { 0 });
     print::number(tidy(t));
-    let h = try_draw::word(spread.refusal as u64, after.live);
+    let h = try_draw::word(0, after.live);
     print::last(digest::entries(h, t, look, n));
 }
 

@@ -1,4 +1,5 @@
-// The cases of document 01 that are worked by hand, run by the code: a line for each, in that paper's order. The expected lines are that paper's numbers.
+// The cases of document 01 that are worked by hand, run by the code: a line for each, in that paper's order, then the spreads of request A1. The expected lines are worked by hand.
+use call_answers::Counted;
 use doubles::Doubles;
 use exact::Amount;
 use exact::Answer;
@@ -185,6 +186,38 @@ fn refusals() {
     );
 }
 
+// A line: the case, and its spread.
+fn show_spread(name: &[u8], s: Counted) {
+    io::write_all(1, name);
+    io::write_all(1, b": spread ");
+    match s {
+        Counted::Refused(n) => {
+            io::write_all(1, b"refused ");
+            io::print_decimal(1, n as u64);
+        }
+        Counted::None => {
+            io::write_all(1, b"none");
+        }
+        Counted::Exponent(e) => {
+            io::print_decimal(1, e as u64);
+        }
+    }
+    io::write_all(1, b"\n");
+}
+
+// How many entries are not zero: after a forbidden outcome, of a fresh table, under a tie, and after a sum that vanished.
+fn spreads() {
+    let a = wider(wider(Table::fresh())).tie(3, 0);
+    let b = a.table.tie(1, 0);
+    let c = b.table.tie(2, 1);
+    show_spread(b"tie 0 1 even, tie 0 even, tie 1 odd", c.table.spread());
+    show_spread(b"fresh", Table::fresh().spread());
+    let d = wider(wider(wider(Table::fresh()))).tie(5, 1);
+    show_spread(b"three bits, tie 0 2 odd", d.table.spread());
+    let e = turned(wider(Table::fresh()), 0, 2).sum(Slot(0));
+    show_spread(b"one bit, quarter 2, sum", e.table.spread());
+}
+
 fn main() {
     one_wire();
     pair();
@@ -204,4 +237,5 @@ fn main() {
     show(b"power 1999, quarter 0, sum", one_bit(1999, 0));
     half();
     refusals();
+    spreads();
 }

@@ -8,7 +8,7 @@ use Rattle.exact.specs.Refusal.{accepted}
 use Rattle.state.specs.declared.State.{State}
 use Rattle.state.specs.Entry.{entry, turn, row, tie, side, ties}
 use Rattle.state.specs.Normal.{Normal}
-use Rattle.theorem_canon.proofs.Laws.Spread.{ties-fit}
+use Rattle.state.proofs.Laws.Room.{fewer-ties}
 use Rattle.body_pack.specs.Packed.{packedTies, packedTable, unpacked}
 use Rattle.body_fields.specs.Inner.Fields.{plainBytes}
 use Rattle.body_write.specs.Body.{bodyBytes}
@@ -51,7 +51,7 @@ module _ (t : State) (N : Normal t) where
 
   few-ties : ties (packedTable t) ≤ ones (t .live)
   unfolding packedTable packedTies
-  few-ties = ties-fit t N
+  few-ties = fewer-ties t N
 
   -- a written table reads back
   pub read-back : (r : Reading) → Reads (ones (t .live)) (bodyBytes t) r → r ≡ reading accepted (packedTable t)
