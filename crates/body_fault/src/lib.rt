@@ -1,67 +1,11 @@
-// A table's body in a book: its fields as the bytes state them, and whether they are refused by 11.
+// Whether a table's body in a book is refused by 11: its length, its ranges, its rows and its ties.
 ghost use mathlib.Core.Path.{_≡_};
 ghost use Prim.Native.Nat.{_^_};
 ghost use lib.Dec.{leb};
 ghost use Rattle.state.specs.Number.{outside};
 ghost use Rattle.contents.specs.Contents.{anyBelow};
-ghost use Rattle.body_fault.specs.Body.{signed16, powerOf, turnOf, rowOf, tieCount, maskOf, sideOf};
-ghost use Rattle.body_fault.specs.Body.{sizeFault, headFault, turnFault, rowFault, tieFault, bodyFault};
+ghost use Rattle.body_bytes.specs.Body.{tieCount, sizeFault, headFault, turnFault, rowFault, tieFault, bodyFault};
 
-// ---- The fields. Every function of these takes any bytes: a byte beyond the end counts as 0.
-// A number of 16 bits, read as two's complement.
-fn signed(n: u16) -> i32
-    ensures { λ r. ⌜ r ≡ signed16 n ⌝ }
-{
-    if n < 32768 {
-        n as i32
-    } else {
-        (n as i32) - 65536
-    }
-}
-
-// The power.
-pub fn power_of(bs: &[u8]) -> i32
-    ensures { λ r. ⌜ r ≡ powerOf (now (bs .entry)) ⌝ }
-{
-    signed(fields::read_u16(bs, 2))
-}
-
-// The turn of slot v.
-pub fn turn_of(bs: &[u8], v: u8) -> u8
-    ensures { λ r. ⌜ r ≡ turnOf (now (bs .entry)) v ⌝ }
-{
-    fields::read_u8(bs, 4 + v as usize)
-}
-
-// The row of slot v.
-pub fn row_of(bs: &[u8], width: u8, v: u8) -> u64
-    ensures { λ r. ⌜ r ≡ rowOf width (now (bs .entry)) v ⌝ }
-{
-    fields::read_u64(bs, 4 + width as usize + 8 * (v as usize))
-}
-
-// The tie count.
-pub fn count_of(bs: &[u8], width: u8) -> u8
-    ensures { λ r. ⌜ r ≡ tieCount width (now (bs .entry)) ⌝ }
-{
-    fields::read_u8(bs, 4 + 9 * (width as usize))
-}
-
-// The mask of tie j.
-pub fn mask_of(bs: &[u8], width: u8, j: u8) -> u64
-    ensures { λ r. ⌜ r ≡ maskOf width (now (bs .entry)) j ⌝ }
-{
-    fields::read_u64(bs, 5 + 9 * (width as usize) + 9 * (j as usize))
-}
-
-// The r of tie j.
-pub fn side_of(bs: &[u8], width: u8, j: u8) -> u8
-    ensures { λ r. ⌜ r ≡ sideOf width (now (bs .entry)) j ⌝ }
-{
-    fields::read_u8(bs, 5 + 9 * (width as usize) + 9 * (j as usize) + 8)
-}
-
-// ---- The tests.
 // Whether a power is below −2,000 or above 2,000.
 fn power_out(s: i32) -> bool
     ensures { λ r. ⌜ r ≡ outside s ⌝ }
@@ -93,7 +37,7 @@ fn size_fault(bs: &[u8], width: u8) -> bool
     if bs.len() < least {
         return true;
     }
-    let k = count_of(bs, width);
+    let k = body_bytes::count_of(bs, width);
     if k > width {
         return true;
     }
@@ -110,7 +54,7 @@ fn head_fault(bs: &[u8]) -> bool
     if fields::read_u8(bs, 1) > 7 {
         return true;
     }
-    power_out(power_of(bs))
+    power_out(body_bytes::power_of(bs))
 }
 
 // Whether some turn is out of range.
@@ -119,7 +63,7 @@ fn turn_fault(bs: &[u8], width: u8) -> bool
 {
     let mut v: u8 = 0;
     while v < width {
-        if turn_of(bs, v) > 3 {
+        if body_bytes::turn_of(bs, v) > 3 {
             return true;
         }
         v += 1;
@@ -133,7 +77,7 @@ fn row_fault(bs: &[u8], width: u8) -> bool
 {
     let mut v: u8 = 0;
     while v < width {
-        if mask_out(row_of(bs, width, v), width) {
+        if mask_out(body_bytes::row_of(bs, width, v), width) {
             return true;
         }
         v += 1;
@@ -145,17 +89,17 @@ fn row_fault(bs: &[u8], width: u8) -> bool
 fn tie_fault(bs: &[u8], width: u8, j: u8) -> bool
     ensures { λ r. ⌜ r ≡ tieFault width (now (bs .entry)) j ⌝ }
 {
-    if mask_out(mask_of(bs, width, j), width) {
+    if mask_out(body_bytes::mask_of(bs, width, j), width) {
         return true;
     }
-    side_of(bs, width, j) > 1
+    body_bytes::side_of(bs, width, j) > 1
 }
 
 // Whether some tie is out of range.
 fn ties_fault(bs: &[u8], width: u8) -> bool
     ensures { λ r. ⌜ r ≡ anyBelow (tieCount width (now (bs .entry))) (tieFault width (now (bs .entry))) ⌝ }
 {
-    let k = count_of(bs, width);
+    let k = body_bytes::count_of(bs, width);
     let mut j: u8 = 0;
     while j < k {
         if tie_fault(bs, width, j) {

@@ -3,7 +3,7 @@ ghost use mathlib.Core.Bool.{false};
 ghost use mathlib.Core.Path.{_≡_};
 ghost use Prim.Native.Nat.{_≤_, _-_, _^_};
 ghost use Rattle.form.specs.Form.{quarter};
-ghost use Rattle.body_fault.specs.Body.{rowOf, tieCount, maskOf, sideOf, bodyFault};
+ghost use Rattle.body_bytes.specs.Body.{rowOf, tieCount, maskOf, sideOf, bodyFault};
 ghost use Rattle.body_read.specs.Table.{quarterOf, padded, formOf, tiesOf, tableOf};
 ghost use Rattle.body_read.specs.Read.{Reads};
 use exact::Eighth;
@@ -24,7 +24,7 @@ pub struct Reading {
 fn quarter_of(bs: &[u8], v: u8) -> Quarter
     ensures { λ r. ⌜ r ≡ quarterOf (now (bs .entry)) v ⌝ }
 {
-    Quarter(body_fault::turn_of(bs, v))
+    Quarter(body_bytes::turn_of(bs, v))
 }
 
 // The turns of the live slots.
@@ -51,7 +51,7 @@ fn signs_of(bs: &[u8], width: u8) -> [u64; 64]
     let mut v: u8 = 0;
     while v < width {
         let i = v as usize;
-        signs[i] = body_fault::row_of(bs, width, v);
+        signs[i] = body_bytes::row_of(bs, width, v);
         v += 1;
     }
     signs
@@ -74,12 +74,12 @@ fn masks_of(bs: &[u8], width: u8) -> [u64; 64]
     requires { ⌜ tieCount width (now bs) ≤ 64 ⌝ }
     ensures { λ r. ⌜ r ≡ padded 0 (tieCount width (now (bs .entry))) (maskOf width (now (bs .entry))) ⌝ }
 {
-    let k = body_fault::count_of(bs, width);
+    let k = body_bytes::count_of(bs, width);
     let mut masks = [0u64; 64];
     let mut j: u8 = 0;
     while j < k {
         let i = j as usize;
-        masks[i] = body_fault::mask_of(bs, width, j);
+        masks[i] = body_bytes::mask_of(bs, width, j);
         j += 1;
     }
     masks
@@ -90,12 +90,12 @@ fn sides_of(bs: &[u8], width: u8) -> [u8; 64]
     requires { ⌜ tieCount width (now bs) ≤ 64 ⌝ }
     ensures { λ r. ⌜ r ≡ padded 0 (tieCount width (now (bs .entry))) (sideOf width (now (bs .entry))) ⌝ }
 {
-    let k = body_fault::count_of(bs, width);
+    let k = body_bytes::count_of(bs, width);
     let mut sides = [0u8; 64];
     let mut j: u8 = 0;
     while j < k {
         let i = j as usize;
-        sides[i] = body_fault::side_of(bs, width, j);
+        sides[i] = body_bytes::side_of(bs, width, j);
         j += 1;
     }
     sides
@@ -107,7 +107,7 @@ fn ties_of(bs: &[u8], width: u8) -> Ties
     ensures { λ r. ⌜ r ≡ tiesOf width (now (bs .entry)) ⌝ }
 {
     Ties {
-        count: body_fault::count_of(bs, width) as usize,
+        count: body_bytes::count_of(bs, width) as usize,
         masks: masks_of(bs, width),
         sides: sides_of(bs, width),
     }
@@ -132,7 +132,7 @@ fn table_of(bs: &[u8], width: u8) -> State
 {
     State {
         zero: fields::read_u8(bs, 0) == 1,
-        power: Power(body_fault::power_of(bs)),
+        power: Power(body_bytes::power_of(bs)),
         live: live_of(width),
         form: form_of(bs, width),
         ties: ties_of(bs, width),

@@ -11,7 +11,7 @@ use Rattle.fields.specs.Bytes.{number}
 use Rattle.gates.specs.Circuit.{circuitNumber}
 use Rattle.state.specs.Normal.{Normal}
 use Rattle.contents.specs.Contents.{countOf, kindOf, widthOf, lengthOf, startOf, contentsNumber}
-use Rattle.body_fault.specs.Body.{bodyFault}
+use Rattle.body_bytes.specs.Body.{bodyFault}
 use Rattle.body_read.specs.Table.{tableOf}
 
 -- the bytes of body j: "length (16 bits), start (32 bits)"

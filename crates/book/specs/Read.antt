@@ -13,7 +13,7 @@ use Rattle.state.specs.Normal.{Normal}
 use Rattle.state.specs.declared.State.{State}
 use Rattle.circuit.specs.Amplitude.{Amplitude}
 use Rattle.contents.specs.Contents.{countOf, kindOf, widthOf, contentsNumber}
-use Rattle.body_fault.specs.Body.{bodyFault}
+use Rattle.body_bytes.specs.Body.{bodyFault}
 use Rattle.body_read.specs.Table.{tableOf}
 use Rattle.book.specs.Book.{bytesOf, inputOf, outputOf, gatesOf, circuitBodyNumber, BookNumber}
 pub use Rattle.book.specs.declared.Said.{Said}

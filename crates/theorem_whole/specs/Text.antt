@@ -16,7 +16,7 @@ use Rattle.bits.specs.Mask.{bit}
 use Rattle.gates.specs.Matrix.{IsAmplitude}
 use Rattle.gates.specs.Circuit.{gateList, gateCount}
 use Rattle.contents.specs.Contents.{countOf, kindOf, widthOf, contentsNumber}
-use Rattle.body_fault.specs.Body.{markOf, phaseOf, powerOf, turnOf, rowOf, tieCount, maskOf, sideOf, bodyFault}
+use Rattle.body_bytes.specs.Body.{markOf, phaseOf, powerOf, turnOf, rowOf, tieCount, maskOf, sideOf, bodyFault}
 use Rattle.book.specs.Book.{bytesOf, inputOf, outputOf, gatesOf, circuitBodyNumber}
 use Rattle.lines.specs.Lines.{bookLine, circuitLine, tableLine, refusedLine}
 

@@ -1,7 +1,7 @@
 -- `fault` meets its contract: test by test.
 use mathlib.Core.Path.{sym, _∙_}
 use borrow.Author.Needs.{needs}
-use Rattle.body_fault.proofs.Laws.Fault.{body-size, body-head, body-turn, body-row, body-tie}
+use Rattle.body_bytes.proofs.Laws.Fault.{body-size, body-head, body-turn, body-row, body-tie}
 use Rattle.body_fault.proofs.fault.Statement.{statement}
 use Rattle.body_fault.proofs.fault.Tie as tie
 

@@ -6,7 +6,7 @@ use mir.Syntax.{w32}
 use mir.Val.{SFits}
 use borrow.Author.Needs.{needs}
 use Rattle.state.specs.Number.{outside}
-use Rattle.body_fault.proofs.Laws.Fault.{head-mark, head-phase, head-power}
+use Rattle.body_bytes.proofs.Laws.Fault.{head-mark, head-phase, head-power}
 use Rattle.body_fault.proofs.head_fault.Statement.{statement}
 use Rattle.body_fault.proofs.head_fault.Tie as tie
 

@@ -1,7 +1,7 @@
 -- `mask_out` meets its contract: what is left above the lowest bits.
 use borrow.Author.Needs.{needs}
 use native.Mathlib.Omega.{arith}
-use Rattle.body_fault.proofs.Laws.Out.{out-shifted, none-out}
+use Rattle.body_bytes.proofs.Laws.Out.{out-shifted, none-out}
 use Rattle.body_fault.proofs.mask_out.Statement.{statement}
 use Rattle.body_fault.proofs.mask_out.Tie as tie
 

@@ -5,7 +5,7 @@ use lib.IntN.{ℤ, negsuc}
 use lib.Signed.{ltZ}
 use mir.Syntax.{w32}
 use mir.ValLaws.{toZ-ofZ}
-use Rattle.body_fault.proofs.Laws.Signed.{outside-low, outside-high}
+use Rattle.body_bytes.proofs.Laws.Signed.{outside-low, outside-high}
 use Rattle.body_fault.proofs.power_out.Statement.{statement}
 use Rattle.body_fault.proofs.power_out.Tie as tie
 

@@ -6,7 +6,7 @@ use native.Mathlib.Omega.{arith}
 use lib.Dec.{eqb}
 use lib.ListN.{length}
 use borrow.Author.Needs.{needs}
-use Rattle.body_fault.proofs.Laws.Fault.{size-wide, size-short, size-ties, size-length}
+use Rattle.body_bytes.proofs.Laws.Fault.{size-wide, size-short, size-ties, size-length}
 use Rattle.body_fault.proofs.size_fault.Statement.{statement}
 use Rattle.body_fault.proofs.size_fault.Tie as tie
 

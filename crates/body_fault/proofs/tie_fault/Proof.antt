@@ -3,7 +3,7 @@ use mathlib.Core.Path.{sym, ap, _∙_}
 use Prim.Native.Nat.{_^_}
 use lib.Dec.{leb, ltb}
 use borrow.Author.Needs.{needs}
-use Rattle.body_fault.proofs.Laws.Fault.{tie-mask, tie-side}
+use Rattle.body_bytes.proofs.Laws.Fault.{tie-mask, tie-side}
 use Rattle.body_fault.proofs.tie_fault.Statement.{statement}
 use Rattle.body_fault.proofs.tie_fault.Tie as tie
 

@@ -6,8 +6,8 @@ use native.Mathlib.Omega.{arith}
 use borrow.Author.Needs.{needs}
 use Rattle.contents.specs.Contents.{anyBelow}
 use Rattle.contents.proofs.Laws.Some.{some-zero, some-next, some-here}
-use Rattle.body_fault.specs.Body.{tieCount, tieFault}
-use Rattle.body_fault.proofs.Laws.Fault.{none-found}
+use Rattle.body_bytes.specs.Body.{tieCount, tieFault}
+use Rattle.body_bytes.proofs.Laws.Fault.{none-found}
 use Rattle.body_fault.proofs.ties_fault.Statement.{statement}
 use Rattle.body_fault.proofs.ties_fault.Tie as tie
 

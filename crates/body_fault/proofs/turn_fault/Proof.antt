@@ -6,8 +6,8 @@ use native.Mathlib.Omega.{arith}
 use borrow.Author.Needs.{needs}
 use Rattle.contents.specs.Contents.{anyBelow}
 use Rattle.contents.proofs.Laws.Some.{some-zero, some-next, some-here}
-use Rattle.body_fault.specs.Body.{turnFault}
-use Rattle.body_fault.proofs.Laws.Fault.{turn-high, turn-low, none-found}
+use Rattle.body_bytes.specs.Body.{turnFault}
+use Rattle.body_bytes.proofs.Laws.Fault.{turn-high, turn-low, none-found}
 use Rattle.body_fault.proofs.turn_fault.Statement.{statement}
 use Rattle.body_fault.proofs.turn_fault.Tie as tie
 

@@ -9,7 +9,7 @@ use Rattle.form.specs.Form.{quarter}
 use Rattle.form.specs.declared.Form.{Form}
 use Rattle.ties.specs.declared.Ties.{Ties}
 use Rattle.state.specs.declared.State.{State}
-use Rattle.body_fault.specs.Body.{markOf, phaseOf, powerOf, rowOf, tieCount, maskOf, sideOf}
+use Rattle.body_bytes.specs.Body.{markOf, phaseOf, powerOf, rowOf, tieCount, maskOf, sideOf}
 use Rattle.body_read.specs.Table.{quarterOf, padded, formOf, tiesOf, tableOf}
 
 module _ (n : ℕ) (bs : List ℕ) where

@@ -16,11 +16,11 @@ use Rattle.state.specs.declared.State.{State}
 use Rattle.state.specs.Entry.{turn, row, tie, side, ties}
 use Rattle.state.specs.Normal.{Normal, InRange}
 use Rattle.state.proofs.Laws.First.{free-from, row-low, tie-low}
-use Rattle.body_fault.specs.Body.{markOf, phaseOf, powerOf, turnOf, rowOf, tieCount, maskOf, sideOf}
+use Rattle.body_bytes.specs.Body.{markOf, phaseOf, powerOf, turnOf, rowOf, tieCount, maskOf, sideOf}
 use Rattle.body_read.specs.Table.{quarterOf, padded, formOf, tiesOf, tableOf}
 use Rattle.body_read.specs.Read.{Reading, reading, Reads}
 use Rattle.body_read.proofs.Laws.Padded.{length-padded, padded-in, padded-out}
-use Rattle.body_fault.proofs.Laws.Fine.{Fine, not-refused}
+use Rattle.body_bytes.proofs.Laws.Fine.{Fine, not-refused}
 
 -- a list of 64 places that is f below n and d from there on
 padded-is : {A : Type 0} (d : A) (n : ℕ) (f : ℕ → A) (l : List A) → length l ≡ 64 → ((v : ℕ) → v < n → getD l v d ≡ f v) → ((v : ℕ) → n ≤ v → getD l v d ≡ d)

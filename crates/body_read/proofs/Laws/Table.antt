@@ -16,10 +16,10 @@ use Rattle.ties.specs.Ties.{maskAt, sideAt, leadAt}
 use Rattle.state.specs.Entry.{turn, row, tie, side, lead, Free}
 use Rattle.state.specs.Inner.Entry.{Live}
 use Rattle.state.specs.Normal.{InRange}
-use Rattle.body_fault.specs.Body.{phaseOf, powerOf, turnOf, rowOf, tieCount, maskOf, sideOf}
+use Rattle.body_bytes.specs.Body.{phaseOf, powerOf, turnOf, rowOf, tieCount, maskOf, sideOf}
 use Rattle.body_read.specs.Table.{quarterOf, formOf, tiesOf, tableOf}
 use Rattle.body_read.proofs.Laws.Padded.{length-padded, padded-in, padded-out}
-use Rattle.body_fault.proofs.Laws.Fine.{Fine}
+use Rattle.body_bytes.proofs.Laws.Fine.{Fine}
 
 module _ (n : ℕ) (bs : List ℕ) where
   -- ---- of any bytes: how long the lists are, what lies beyond the width and beyond the ties

@@ -9,9 +9,9 @@ use Rattle.fields.specs.Bytes.{number}
 use Rattle.contents.specs.Contents.{anyBelow}
 use Rattle.form.specs.Form.{turnAt, rowAt}
 use Rattle.ties.specs.Ties.{maskAt, sideAt}
-use Rattle.body_fault.specs.Body.{bodyFault, sizeFault, headFault, turnFault, rowFault, tieFault}
+use Rattle.body_bytes.specs.Body.{bodyFault, sizeFault, headFault, turnFault, rowFault, tieFault}
 use Rattle.fields.specs.Listed.{listed}
-use Rattle.body_fault.specs.Body.{signed16}
+use Rattle.body_bytes.specs.Body.{signed16}
 use Rattle.body_read.specs.Table.{padded, formOf, tiesOf, tableOf}
 
 -- zero mark, c and s; two turns; two rows; the tie count; the tie of the slots 0 and 1 with r = 1

@@ -5,7 +5,7 @@ use Prim.Native.Nat.{ℕ, _≤_, _-_}
 use native.Mathlib.Omega.{arith}
 use lib.ListN.{set}
 use borrow.Author.Needs.{needs}
-use Rattle.body_fault.specs.Body.{tieCount, sideOf}
+use Rattle.body_bytes.specs.Body.{tieCount, sideOf}
 use Rattle.body_read.specs.Table.{padded}
 use Rattle.body_read.proofs.Laws.Padded.{padded-none, padded-next, padded-end}
 use Rattle.body_read.proofs.sides_of.Statement.{statement}

@@ -5,7 +5,7 @@ use mir.Facts.{toZ-ofZ}
 use mir.Syntax.{w32}
 use mir.Val.{SFits}
 use borrow.Author.Needs.{needs}
-use Rattle.body_fault.proofs.Laws.Fine.{fine}
+use Rattle.body_bytes.proofs.Laws.Fine.{fine}
 use Rattle.body_read.proofs.Laws.Parts.{table-is}
 use Rattle.body_read.proofs.table_of.Statement.{statement}
 use Rattle.body_read.proofs.table_of.Tie as tie

@@ -13,7 +13,7 @@ use Rattle.state.specs.Normal.{Normal}
 use Rattle.circuit.proofs.Laws.Only.{one-amplitude}
 use Rattle.contents.specs.Contents.{countOf, kindOf, widthOf, entryOf, contentsNumber}
 use Rattle.contents.proofs.Laws.Good.{good}
-use Rattle.body_fault.specs.Body.{bodyFault}
+use Rattle.body_bytes.specs.Body.{bodyFault}
 use Rattle.body_read.specs.Table.{tableOf}
 use Rattle.book.specs.Book.{inputOf, outputOf, gatesOf, bytesOf, circuitBodyNumber, TableNumber, BodyNumber, Clear, Refuses, BodiesNumber, BookNumber}
 use Rattle.book.specs.Read.{Body, saidNumber, saidAmount, refusal, circuitBody, CircuitAnswer, TableAnswer, BodyAnswer, BodyAt, ReadsBody}

@@ -19,7 +19,7 @@ use Rattle.state.specs.Normal.{Normal}
 use Rattle.gates.specs.Near.{Near}
 use Rattle.contents.specs.Contents.{countOf, widthOf, entryOf}
 use Rattle.contents.proofs.Laws.Good.{good}
-use Rattle.body_fault.specs.Body.{bodyFault}
+use Rattle.body_bytes.specs.Body.{bodyFault}
 use Rattle.body_read.specs.Table.{tableOf}
 use Rattle.lines.specs.Lines.{bookLine, refusedLine}
 use Rattle.lines.proofs.Laws.Lengths.{InRange, book-length, circuit-length, table-length, refused-length}

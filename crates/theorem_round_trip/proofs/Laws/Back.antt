@@ -18,10 +18,10 @@ use Rattle.body_write.proofs.Laws.Body.{body-plain}
 use Rattle.body_pack.proofs.Laws.Normal.{packed-normal}
 use Rattle.body_pack.proofs.Laws.Entry.{packed-entry}
 use Rattle.body_read.specs.declared.Reading.{Reading}
-use Rattle.body_fault.specs.Body.{bodyFault}
+use Rattle.body_bytes.specs.Body.{bodyFault}
 use Rattle.body_read.specs.Table.{tableOf}
 use Rattle.body_read.specs.Read.{reading, Reads}
-use Rattle.body_fault.proofs.Laws.Fine.{not-refused}
+use Rattle.body_bytes.proofs.Laws.Fine.{not-refused}
 use Rattle.body_read.proofs.Laws.Stated.{States, stated, stated-fine, stated-read}
 use Rattle.theorem_round_trip.proofs.Laws.Written.{mark-is, phase-is, power-is, turn-is, row-is, count-is, tie-is, side-is}
 

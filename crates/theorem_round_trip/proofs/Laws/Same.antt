@@ -21,11 +21,11 @@ use Rattle.body_write.specs.Write.{BodyWritten}
 use Rattle.body_write.proofs.Laws.Body.{fields-ext}
 use Rattle.body_write.proofs.Laws.Same.{body-same}
 use Rattle.body_read.specs.declared.Reading.{Reading}
-use Rattle.body_fault.specs.Body.{signed16, markOf, phaseOf, powerOf, turnOf, rowOf, tieCount, maskOf, sideOf, bodyFault}
+use Rattle.body_bytes.specs.Body.{signed16, markOf, phaseOf, powerOf, turnOf, rowOf, tieCount, maskOf, sideOf, bodyFault}
 use Rattle.body_read.specs.Table.{formOf, tiesOf, tableOf}
 use Rattle.body_read.specs.Read.{Reads}
-use Rattle.body_fault.proofs.Laws.Signed.{signed-low, signed-high}
-use Rattle.body_fault.proofs.Laws.Fine.{Fine, fine}
+use Rattle.body_bytes.proofs.Laws.Signed.{signed-low, signed-high}
+use Rattle.body_bytes.proofs.Laws.Fine.{Fine, fine}
 use Rattle.body_read.proofs.Laws.Table.{live-is, turn-is, row-is, tie-is, side-is}
 use Rattle.theorem_round_trip.specs.Same.{WrittenAgain}
 use Rattle.theorem_round_trip.proofs.Laws.Segment.{segment, segment-next, front-then, segment-byte, segment-joined}

@@ -11,8 +11,8 @@ use Rattle.fields.proofs.Laws.Front.{length-le}
 use Rattle.state.specs.Normal.{InRange}
 use Rattle.body_fields.specs.Fields.{joined, mark, ofSigned16, headBytes, tieBytes, fieldBytes}
 use Rattle.body_fields.proofs.Laws.Bytes.{toTurns, toRows, toCount, toTies, length-turns, length-rows, length-count, length-ties, length-tie, fields-are}
-use Rattle.body_fault.specs.Body.{signed16, markOf, phaseOf, powerOf, turnOf, rowOf, tieCount, maskOf, sideOf}
-use Rattle.body_fault.proofs.Laws.Signed.{signed-low, signed-high}
+use Rattle.body_bytes.specs.Body.{signed16, markOf, phaseOf, powerOf, turnOf, rowOf, tieCount, maskOf, sideOf}
+use Rattle.body_bytes.proofs.Laws.Signed.{signed-low, signed-high}
 use Rattle.theorem_round_trip.proofs.Laws.Part.{Part, part-at, part-own, part-left, part-right, part-joined, part-byte, part-number}
 
 -- ---- the power

@@ -15,8 +15,8 @@ use Rattle.bits.proofs.Laws.Bit.{bit-above, bit-of-zero}
 use Rattle.form.specs.Form.{signAt}
 use Rattle.ties.specs.Ties.{held}
 use Rattle.state.specs.Entry.{turn, row, tie, sign, turnsAt, entry}
-use Rattle.body_fault.specs.Body.{markOf, turnOf, rowOf, tieCount, maskOf, bodyFault}
-use Rattle.body_fault.proofs.Laws.Fine.{Fine, fine}
+use Rattle.body_bytes.specs.Body.{markOf, turnOf, rowOf, tieCount, maskOf, bodyFault}
+use Rattle.body_bytes.proofs.Laws.Fine.{Fine, fine}
 use Rattle.body_read.specs.Table.{tiesOf, tableOf}
 use Rattle.body_read.proofs.Laws.Table.{phase-is, turn-beyond, row-beyond, turn-is, row-is, tie-is, side-is}
 use Rattle.theorem_whole.specs.Text.{tiesHold, turnsOf, entryOf}

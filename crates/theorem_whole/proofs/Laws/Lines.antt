@@ -15,7 +15,7 @@ use Rattle.bits.specs.Mask.{bit}
 use Rattle.bits.proofs.Laws.First.{first-bit}
 use Rattle.bits.proofs.Laws.Parity.{ones-total}
 use Rattle.gates.specs.Circuit.{circuitNumber}
-use Rattle.body_fault.specs.Body.{tieCount, bodyFault}
+use Rattle.body_bytes.specs.Body.{tieCount, bodyFault}
 use Rattle.body_read.specs.Table.{formOf, tiesOf, tableOf}
 use Rattle.book.specs.declared.Body.{Body}
 use Rattle.book.specs.Book.{inputOf, outputOf, gatesOf, circuitBodyNumber, TableNumber}

@@ -19,8 +19,8 @@ use Rattle.ties.specs.Ties.{Reduced}
 use Rattle.state.specs.declared.State.{State}
 use Rattle.state.specs.Entry.{turn, row, tie, lead, ties, Free}
 use Rattle.state.specs.Normal.{Normal}
-use Rattle.body_fault.specs.Body.{markOf, tieCount, maskOf, sideOf}
-use Rattle.body_fault.proofs.Laws.Fine.{Fine}
+use Rattle.body_bytes.specs.Body.{markOf, tieCount, maskOf, sideOf}
+use Rattle.body_bytes.proofs.Laws.Fine.{Fine}
 use Rattle.body_read.specs.Table.{tiesOf, tableOf}
 use Rattle.body_read.proofs.Laws.Padded.{length-padded}
 use Rattle.body_read.proofs.Laws.Table.{turns-long, signs-long, power-is, phase-is, live-below, turn-beyond, row-beyond, tie-beyond, side-beyond, turn-is, row-is, tie-is, lead-is, power-range, phase-range, live-range, turn-range, row-range, side-range}

@@ -10,7 +10,7 @@ use Rattle.state.specs.declared.State.{State}
 use Rattle.state.specs.Entry.{entry}
 use Rattle.state.specs.Normal.{Normal}
 use Rattle.contents.specs.Contents.{countOf, kindOf, widthOf}
-use Rattle.body_fault.specs.Body.{bodyFault}
+use Rattle.body_bytes.specs.Body.{bodyFault}
 use Rattle.body_read.specs.declared.Reading.{Reading}
 use Rattle.body_read.specs.Table.{tableOf}
 use Rattle.body_read.specs.Read.{Reads}

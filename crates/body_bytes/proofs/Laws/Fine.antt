@@ -11,10 +11,10 @@ use Rattle.state.specs.Number.{outside}
 use Rattle.state.specs.Normal.{InRange}
 use Rattle.contents.specs.Contents.{anyBelow}
 use Rattle.contents.proofs.Laws.Some.{or-no-left, or-no-right, some-none, none}
-use Rattle.body_fault.specs.Body.{markOf, phaseOf, powerOf, turnOf, rowOf, tieCount, maskOf, sideOf}
-use Rattle.body_fault.specs.Body.{sizeFault, headFault, turnFault, rowFault, tieFault, bodyFault}
+use Rattle.body_bytes.specs.Body.{markOf, phaseOf, powerOf, turnOf, rowOf, tieCount, maskOf, sideOf}
+use Rattle.body_bytes.specs.Body.{sizeFault, headFault, turnFault, rowFault, tieFault, bodyFault}
 use Rattle.state.proofs.Laws.Range.{inside-range}
-use Rattle.body_fault.proofs.Laws.Signed.{not-outside}
+use Rattle.body_bytes.proofs.Laws.Signed.{not-outside}
 
 -- every field of a body of width n is in range
 pub record Fine (n : ℕ) (bs : List ℕ) : Type 0 where

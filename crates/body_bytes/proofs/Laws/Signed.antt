@@ -11,7 +11,7 @@ use mir.Val.{SFits, toZ}
 use borrow.Author.Tests.{lt-ltb, le-ltb, le-leb, lt-leb, ltb-true, ltb-false}
 use Rattle.state.specs.Number.{outside}
 use Rattle.state.specs.Normal.{InRange}
-use Rattle.body_fault.specs.Body.{signed16}
+use Rattle.body_bytes.specs.Body.{signed16}
 
 module _ (n : ℕ) where
   pub plain : n < 65536 → toZ w32 n ≡ pos n

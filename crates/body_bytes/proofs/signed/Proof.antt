@@ -3,9 +3,9 @@ use mathlib.Core.Path.{sym, _∙_}
 use native.Mathlib.Omega.{arith}
 use mir.Facts.{toZ-ofZ}
 use borrow.Author.Needs.{needs}
-use Rattle.body_fault.proofs.Laws.Signed.{plain, signed-low, signed-less, less-fits}
-use Rattle.body_fault.proofs.signed.Statement.{statement}
-use Rattle.body_fault.proofs.signed.Tie as tie
+use Rattle.body_bytes.proofs.Laws.Signed.{plain, signed-low, signed-less, less-fits}
+use Rattle.body_bytes.proofs.signed.Statement.{statement}
+use Rattle.body_bytes.proofs.signed.Tie as tie
 
 cast-result : tie.Need-cast-result
 cast-result c = search needs

@@ -9,8 +9,8 @@ use lib.ListN.{length}
 use borrow.Author.Tests.{lt-ltb, le-ltb}
 use Rattle.state.specs.Number.{outside}
 use Rattle.contents.specs.Contents.{anyBelow}
-use Rattle.body_fault.specs.Body.{markOf, phaseOf, powerOf, turnOf, rowOf, tieCount, maskOf, sideOf}
-use Rattle.body_fault.specs.Body.{sizeFault, headFault, turnFault, rowFault, tieFault, bodyFault}
+use Rattle.body_bytes.specs.Body.{markOf, phaseOf, powerOf, turnOf, rowOf, tieCount, maskOf, sideOf}
+use Rattle.body_bytes.specs.Body.{sizeFault, headFault, turnFault, rowFault, tieFault, bodyFault}
 
 module _ (n : ℕ) (bs : List ℕ) where
   -- ---- width, length and tie count

@@ -4,9 +4,9 @@ use mir.Facts.{toZ-ofZ}
 use mir.Syntax.{w32}
 use mir.Val.{SFits}
 use borrow.Author.Needs.{needs}
-use Rattle.body_fault.specs.Body.{signed16}
-use Rattle.body_fault.proofs.power_of.Statement.{statement}
-use Rattle.body_fault.proofs.power_of.Tie as tie
+use Rattle.body_bytes.specs.Body.{signed16}
+use Rattle.body_bytes.proofs.power_of.Statement.{statement}
+use Rattle.body_bytes.proofs.power_of.Tie as tie
 
 read-u16-requires : tie.Need-read-u16-requires
 read-u16-requires c κs = search needs
