@@ -1,10 +1,10 @@
-// Inner: little-endian numbers, read from lent bytes and written at the front of a lent part. Asks of its callers a part that is long enough for what is written; a read asks nothing.
+// Little-endian numbers, read from lent bytes and written at the front of a lent part. A byte beyond the end reads as 0; where a part is too short for a number, nothing is written.
 ghost use mathlib.Core.Path.{_≡_};
 ghost use mathlib.Core.List.{[], _∷_};
 ghost use Prim.Native.Nat.{_+_, _≤_, _<_};
 ghost use lib.ListN.{length};
 ghost use Rattle.fields.specs.Bytes.{byteAt, le, front};
-ghost use Rattle.fields.specs.Inner.Bytes.{Stated};
+ghost use Rattle.fields.specs.Inner.Bytes.{Stated, Put};
 
 // The byte at a place, and 0 beyond the end.
 pub fn read_u8(s: &[u8], at: usize) -> u8
@@ -75,34 +75,42 @@ fn write_number(part: &mut [u8], v: u64, n: usize)
     }
 }
 
-// One byte at the front of the part.
+// One byte at the front of the part; a part that is too short stays as it is.
 pub fn write_u8(part: &mut [u8], v: u8)
-    requires { ⌜ 1 ≤ length (now part) ⌝ }
-    ensures { λ _. ⌜ now (part .exit) ≡ front (now (part .entry)) (v ∷ []) ⌝ }
+    ensures { λ _. ⌜ Put 1 (v ∷ []) (now (part .entry)) (now (part .exit)) ⌝ }
 {
+    if part.len() < 1 {
+        return;
+    }
     part[0] = v;
 }
 
-// Two bytes at the front of the part.
+// Two bytes at the front of the part, likewise.
 pub fn write_u16(part: &mut [u8], v: u16)
-    requires { ⌜ 2 ≤ length (now part) ⌝ }
-    ensures { λ _. ⌜ now (part .exit) ≡ front (now (part .entry)) (le 2 v) ⌝ }
+    ensures { λ _. ⌜ Put 2 (le 2 v) (now (part .entry)) (now (part .exit)) ⌝ }
 {
+    if part.len() < 2 {
+        return;
+    }
     write_number(part, v as u64, 2);
 }
 
-// Four bytes at the front of the part.
+// Four bytes at the front of the part, likewise.
 pub fn write_u32(part: &mut [u8], v: u32)
-    requires { ⌜ 4 ≤ length (now part) ⌝ }
-    ensures { λ _. ⌜ now (part .exit) ≡ front (now (part .entry)) (le 4 v) ⌝ }
+    ensures { λ _. ⌜ Put 4 (le 4 v) (now (part .entry)) (now (part .exit)) ⌝ }
 {
+    if part.len() < 4 {
+        return;
+    }
     write_number(part, v as u64, 4);
 }
 
-// Eight bytes at the front of the part.
+// Eight bytes at the front of the part, likewise.
 pub fn write_u64(part: &mut [u8], v: u64)
-    requires { ⌜ 8 ≤ length (now part) ⌝ }
-    ensures { λ _. ⌜ now (part .exit) ≡ front (now (part .entry)) (le 8 v) ⌝ }
+    ensures { λ _. ⌜ Put 8 (le 8 v) (now (part .entry)) (now (part .exit)) ⌝ }
 {
+    if part.len() < 8 {
+        return;
+    }
     write_number(part, v, 8);
 }

@@ -1,9 +1,12 @@
 -- `write_fields` meets its contract: the fields, one behind the other.
 use mathlib.Core.Bool.{Bool}
 use mathlib.Core.List.{List, [], _∷_}
-use Prim.Native.Nat.{ℕ, _+_, _*_}
+use Prim.Native.Nat.{ℕ, _+_, _*_, _≤_}
+use native.Mathlib.Omega.{arith}
 use lib.IntN.{ℤ}
+use lib.ListN.{length}
 use Rattle.fields.specs.Bytes.{le}
+use Rattle.fields.proofs.Laws.Put.{lent-put}
 use Rattle.fields.proofs.Laws.Front.{lent-front}
 use Rattle.form.specs.Form.{turnAt, rowAt}
 use Rattle.ties.specs.Ties.{maskAt, sideAt}
@@ -100,7 +103,8 @@ returns c =
     let at : (Bool → ℕ → ℤ → ℕ → (ℕ → ℕ) → (ℕ → ℕ) → ℕ → List ℕ) → List ℕ = λ Q. Q (t .zero) (f .phase .0) (t .power .0) n (turnAt f) (rowAt f) k in
     let two = lent-front xs (at toTurns) (joined n (λ i. turnAt f i ∷ [])) _ (w2 .write-turns .last .0) 4 (w1 .write-head .ensures) (length-turns (t .zero) (f .phase .0) (t .power .0) n (turnAt f) (rowAt f) k) (w2 .write-turns .ensures) in
     let three = lent-front xs (at toRows) (joined n (λ i. le 8 (rowAt f i))) _ (w3 .write-rows .last .0) (4 + n) two (length-rows (t .zero) (f .phase .0) (t .power .0) n (turnAt f) (rowAt f) k) (w3 .write-rows .ensures) in
-    let four = lent-front xs (at toCount) (k ∷ []) _ (w4 .write-u8 .last .0) (4 + n + 8 * n) three (length-count (t .zero) (f .phase .0) (t .power .0) n (turnAt f) (rowAt f) k) (w4 .write-u8 .ensures) in
+    let room : 4 + n + 8 * n + 1 ≤ length xs = omega (arith, w1 .before .before .before .before .before .before .before .pre .room) in
+    let four = lent-front xs (at toCount) (k ∷ []) _ (w4 .write-u8 .last .0) (4 + n + 8 * n) three (length-count (t .zero) (f .phase .0) (t .power .0) n (turnAt f) (rowAt f) k) (lent-put xs (at toCount) (k ∷ []) _ _ (4 + n + 8 * n) 1 three (length-count (t .zero) (f .phase .0) (t .power .0) n (turnAt f) (rowAt f) k) room (w4 .write-u8 .ensures)) in
     lent-front xs (at toTies) (joined k (λ j. tieBytes (maskAt (t .ties) j) (sideAt (t .ties) j))) _ (w5 .write-ties .last .0) (4 + n + 8 * n + 1) four (length-ties (t .zero) (f .phase .0) (t .power .0) n (turnAt f) (rowAt f) k) (w5 .write-ties .ensures)
 
 pub write-fields-spec : {M : Type 1} → statement M

@@ -6,6 +6,7 @@ use mir.Facts.{toZ-ofZ}
 use mir.Syntax.{w32}
 use mir.Val.{toZ, ofZ}
 use Rattle.fields.specs.Bytes.{le, front}
+use Rattle.fields.proofs.Laws.Put.{lent-put}
 use Rattle.fields.proofs.Laws.Front.{lent-front}
 use Rattle.state.proofs.Laws.Scale.{in-range-fits}
 use Rattle.body_fields.specs.Fields.{mark, ofSigned16, headBytes}
@@ -61,11 +62,11 @@ returns c =
     let a = k .args in
     let xs = a .part .now in
     let z = mark (a .zero) ∷ [] in
-    let one = b .write-u8 .ensures ∙ ap (λ (x : ℕ). front xs (x ∷ [])) (m .mark-byte .ensures) in
-    let two = lent-front xs z (a .c .0 ∷ []) _ (d .write-u82 .last .0) 1 one refl (d .write-u82 .ensures) in
+    let one = b .write-u8 .ensures .fits (search needs) ∙ ap (λ (x : ℕ). front xs (x ∷ [])) (m .mark-byte .ensures) in
+    let two = lent-front xs z (a .c .0 ∷ []) _ (d .write-u82 .last .0) 1 one refl (d .write-u82 .ensures .fits (search needs)) in
     let same : toZ w32 (ofZ w32 (a .s .0)) ≡ a .s .0 = toZ-ofZ (in-range-fits (a .s .0) (k .pre .0)) in
     let bits = e .before .signed-bits .ensures ∙ ap ofSigned16 same in
-    lent-front xs (z ++ (a .c .0 ∷ [])) (le 2 (ofSigned16 (a .s .0))) _ (e .write-u16 .last .0) 2 two refl (front-same _ _ _ _ (e .write-u16 .ensures) (ap (le 2) bits))
+    lent-front xs (z ++ (a .c .0 ∷ [])) (le 2 (ofSigned16 (a .s .0))) _ (e .write-u16 .last .0) 2 two refl (front-same _ _ _ _ (lent-put xs (z ++ (a .c .0 ∷ [])) _ _ _ 2 2 two refl (k .pre .1) (e .write-u16 .ensures)) (ap (le 2) bits))
 
 pub write-head-spec : {M : Type 1} → statement M
 write-head-spec =

@@ -38,7 +38,7 @@ part-write-u64-end : tie.Need-part-write-u64-end Inv-loop μ-loop
 part-write-u64-end c = search needs
 
 write-u64-requires : tie.Need-write-u64-requires Inv-loop μ-loop
-write-u64-requires c κs = simp (lent-part, length-drop) (omega arith)
+write-u64-requires c κs = search needs
 
 add-i : tie.Need-add-i Inv-loop μ-loop
 add-i c = search needs
@@ -56,7 +56,7 @@ loop-again c =
       omega arith,
       same-len-mid at (length (l .part) - at) (l .part) (w .write-u64 .last .0) (w .write-u64 .kept .0) ∙ l .inv .1,
       lent-next 8 (λ v. le 8 (rowAt (a .f) v)) (λ v. length-le 8 _) (a .part .now) (l .part) (w .write-u64 .last .0) (l .i) at (omega arith) (l .inv .2)
-          (w .write-u64 .ensures ∙ ap (λ (x : ℕ). front (take (length (l .part) - at) (drop at (l .part))) (le 8 x)) (k .row-at .ensures)),
+          (w .write-u64 .ensures .fits (search needs) ∙ ap (λ (x : ℕ). front (take (length (l .part) - at) (drop at (l .part))) (le 8 x)) (k .row-at .ensures)),
     )
 
 same-length : tie.Need-same-length Inv-loop μ-loop

@@ -31,7 +31,7 @@ returns c =
     let w = c .before .before in
     let v = w .before .before .before .before in
     let a = v .before .before .before .args in
-    lent-front (a .part .now) (le 8 (a .a .mask)) (a .a .side ∷ []) _ (w .write-u8 .last .0) 8 (v .write-u64 .ensures) (length-le 8 (a .a .mask)) (w .write-u8 .ensures)
+    lent-front (a .part .now) (le 8 (a .a .mask)) (a .a .side ∷ []) _ (w .write-u8 .last .0) 8 (v .write-u64 .ensures .fits (search needs)) (length-le 8 (a .a .mask)) (w .write-u8 .ensures .fits (search needs))
 
 pub write-tie-spec : {M : Type 1} → statement M
 write-tie-spec =

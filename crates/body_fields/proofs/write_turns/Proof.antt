@@ -36,7 +36,7 @@ part-write-u8-end : tie.Need-part-write-u8-end Inv-loop μ-loop
 part-write-u8-end c = search needs
 
 write-u8-requires : tie.Need-write-u8-requires Inv-loop μ-loop
-write-u8-requires c κs = simp (lent-part, length-drop) (omega arith)
+write-u8-requires c κs = search needs
 
 add-i : tie.Need-add-i Inv-loop μ-loop
 add-i c = search needs
@@ -54,7 +54,7 @@ loop-again c =
       omega arith,
       same-len-mid at (length (l .part) - at) (l .part) (w .write-u8 .last .0) (w .write-u8 .kept .0) ∙ l .inv .1,
       lent-next 1 (λ v. turnAt (a .f) v ∷ []) (λ v. refl) (a .part .now) (l .part) (w .write-u8 .last .0) (l .i) at (omega arith) (l .inv .2)
-          (w .write-u8 .ensures ∙ ap (λ (x : ℕ). front (take (length (l .part) - at) (drop at (l .part))) (x ∷ [])) (k .turn-at .ensures)),
+          (w .write-u8 .ensures .fits (search needs) ∙ ap (λ (x : ℕ). front (take (length (l .part) - at) (drop at (l .part))) (x ∷ [])) (k .turn-at .ensures)),
     )
 
 same-length : tie.Need-same-length Inv-loop μ-loop

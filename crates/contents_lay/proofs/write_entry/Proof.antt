@@ -58,10 +58,10 @@ returns c =
     let kind = a .kind ∷ [] in
     let width = kind ++ (a .width ∷ []) in
     let size = width ++ le 2 (a .size) in
-    let one = c .before .before .before .before .before .before .before .before .before .before .before .before .before .before .write-u8 .ensures in
-    let two = lent-front xs kind (a .width ∷ []) _ (c .before .before .before .before .before .before .before .before .before .before .write-u82 .last .0) 1 one refl (c .before .before .before .before .before .before .before .before .before .before .write-u82 .ensures) in
-    let four = lent-front xs width (le 2 (a .size)) _ (c .before .before .before .before .before .before .write-u16 .last .0) 2 two refl (c .before .before .before .before .before .before .write-u16 .ensures) in
-    lent-front xs size (le 4 (a .start)) _ (c .before .before .write-u32 .last .0) 4 four refl (c .before .before .write-u32 .ensures)
+    let one = c .before .before .before .before .before .before .before .before .before .before .before .before .before .before .write-u8 .ensures .fits (search needs) in
+    let two = lent-front xs kind (a .width ∷ []) _ (c .before .before .before .before .before .before .before .before .before .before .write-u82 .last .0) 1 one refl (c .before .before .before .before .before .before .before .before .before .before .write-u82 .ensures .fits (search needs)) in
+    let four = lent-front xs width (le 2 (a .size)) _ (c .before .before .before .before .before .before .write-u16 .last .0) 2 two refl (c .before .before .before .before .before .before .write-u16 .ensures .fits (search needs)) in
+    lent-front xs size (le 4 (a .start)) _ (c .before .before .write-u32 .last .0) 4 four refl (c .before .before .write-u32 .ensures .fits (search needs))
 
 pub write-entry-spec : {M : Type 1} → statement M
 write-entry-spec =
