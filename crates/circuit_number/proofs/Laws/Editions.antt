@@ -6,12 +6,13 @@ use Prim.Native.Nat.{ℕ, _%_, _^_}
 use lib.Dec.{eqb, ltb, leb}
 use lib.ListN.{length}
 use Rattle.exact.specs.Refusal.{badWire, badString, badBody, _gives_, first}
+use Rattle.editions.specs.Edition.{goodEdition}
 use Rattle.gates.specs.Circuit.{gateCount, gatesNumber, circuitNumber}
 use Rattle.gates.proofs.Laws.Listed.{listed}
 use Rattle.circuit_number.proofs.Laws.Number.{accepted-law}
 
 pub accepted-too : (width input output : ℕ) (bs : List ℕ) → circuitNumber 1 width input output bs ≡ 0 → circuitNumber 2 width input output bs ≡ 0
-unfolding circuitNumber
+unfolding circuitNumber goodEdition
 accepted-too width input output bs e = ap own (later ∙ sym gates) ∙ e
   where
     gates : gatesNumber 1 width bs (gateCount bs) ≡ 0
