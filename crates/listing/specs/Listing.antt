@@ -14,9 +14,9 @@ use Rattle.state.specs.Entry.{ties}
 use Rattle.contents.specs.Contents.{countOf}
 use Rattle.lines_words.specs.Overlay.{TextLaid}
 use Rattle.lines.specs.Lines.{bookLine, circuitLine, tableLine, refusedLine}
-use Rattle.book.specs.declared.Said.{Said}
-use Rattle.book.specs.declared.Said.the-variants.{Refused, Circuit, Whole}
-use Rattle.book.specs.declared.Body.{Body}
+use Rattle.book_bodies.specs.declared.Said.{Said}
+use Rattle.book_bodies.specs.declared.Said.the-variants.{Refused, Circuit, Whole}
+use Rattle.book_bodies.specs.declared.Body.{Body}
 use Rattle.book.specs.Book.{BookNumber}
 use Rattle.book.specs.Read.{ReadsBody}
 

@@ -2,8 +2,8 @@
 ghost use mathlib.Core.Path.{_≡_};
 ghost use Rattle.lines_words.specs.Overlay.{TextLaid};
 ghost use Rattle.listing.specs.Listing.{tableAmount, bodyLine, Listed};
-use book::Body;
-use book::Said;
+use book_bodies::Body;
+use book_bodies::Said;
 use exact::Amount;
 use state::State;
 

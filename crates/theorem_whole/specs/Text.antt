@@ -17,7 +17,8 @@ use Rattle.gates.specs.Matrix.{IsAmplitude}
 use Rattle.gates.specs.Circuit.{gateList, gateCount}
 use Rattle.contents.specs.Contents.{editionOf, countOf, kindOf, widthOf, contentsNumber}
 use Rattle.body_bytes.specs.Body.{markOf, phaseOf, powerOf, turnOf, rowOf, tieCount, maskOf, sideOf, bodyFault}
-use Rattle.book.specs.Book.{bytesOf, inputOf, outputOf, gatesOf, circuitBodyNumber}
+use Rattle.book.specs.Book.{bytesOf}
+use Rattle.book_bodies.specs.Number.{inputOf, outputOf, gatesOf, circuitBodyNumber}
 use Rattle.lines.specs.Lines.{bookLine, circuitLine, tableLine, refusedLine}
 
 -- ---- a circuit's line

@@ -19,9 +19,10 @@ use Rattle.body_read.specs.declared.Reading.{Reading}
 use Rattle.body_read.specs.Read.{Reads}
 use Rattle.body_write.specs.declared.Written.{Written}
 use Rattle.body_write.specs.Write.{BodyWritten}
-use Rattle.book.specs.declared.Said.the-variants.{Refused, Circuit, Whole}
-use Rattle.book.specs.declared.Body.{Body}
-use Rattle.book.specs.Read.{saidNumber, ReadsBody}
+use Rattle.book_bodies.specs.declared.Said.the-variants.{Refused, Circuit, Whole}
+use Rattle.book_bodies.specs.declared.Body.{Body}
+use Rattle.book.specs.Read.{ReadsBody}
+use Rattle.book_bodies.specs.Answer.{saidNumber}
 use Rattle.listing.specs.Listing.{tableAmount}
 
 -- ---- an amount as three numbers

@@ -3,7 +3,7 @@ ghost use mathlib.Core.Path.{_≡_};
 ghost use Rattle.contents_lay.specs.Lay.{ContentsLaid};
 ghost use Rattle.listing.specs.Listing.{Listed};
 ghost use Rattle.topazfern.specs.Told.{behind, told, AnswerTold, AmplitudeTold, EntryTold, WriteTold, six, ReadTold};
-use book::Said;
+use book_bodies::Said;
 use exact::Amount;
 use exact::Answer;
 

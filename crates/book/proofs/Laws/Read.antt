@@ -1,12 +1,14 @@
 -- What reading a body of a book answers on each way through the code.
 use mathlib.Core.List.{List}
 use mathlib.Core.Logic.{_≢_}
-use mathlib.Core.Path.{_≡_, ap, sym, _∙_}
+use mathlib.Core.Path.{_≡_, ap, _∙_}
 use Prim.Native.Nat.{ℕ, _≤_, _<_}
 use native.Mathlib.Omega.{arith}
 use Rattle.contents.specs.Contents.{editionOf, countOf, kindOf, widthOf, contentsNumber}
 use Rattle.book.specs.Book.{bytesOf, BookNumber}
-use Rattle.book.specs.Read.{Body, refusal, BodyAnswer, BodyAt, ReadsBody}
+use Rattle.book.specs.Read.{BodyAt, ReadsBody}
+use Rattle.book_bodies.specs.declared.Body.{Body}
+use Rattle.book_bodies.specs.Answer.{refusal, BodyAnswer}
 use Rattle.book.proofs.Laws.Number.{contents-good}
 
 -- ---- a body on its own

@@ -23,9 +23,11 @@ use Rattle.body_bytes.specs.Body.{bodyFault}
 use Rattle.body_read.specs.Table.{tableOf}
 use Rattle.lines.specs.Lines.{bookLine, refusedLine}
 use Rattle.lines.proofs.Laws.Lengths.{InRange, book-length, circuit-length, table-length, refused-length}
-use Rattle.book.specs.declared.Body.{Body}
-use Rattle.book.specs.Book.{BookNumber, bytesOf, circuitBodyNumber}
-use Rattle.book.specs.Read.{refusal, tableBody, saidNumber, saidAmount, CircuitAnswer, TableAnswer, ReadsBody}
+use Rattle.book_bodies.specs.declared.Body.{Body}
+use Rattle.book.specs.Book.{BookNumber, bytesOf}
+use Rattle.book_bodies.specs.Number.{circuitBodyNumber}
+use Rattle.book.specs.Read.{ReadsBody}
+use Rattle.book_bodies.specs.Answer.{refusal, tableBody, saidNumber, saidAmount, CircuitAnswer, TableAnswer}
 use Rattle.book.proofs.Laws.Number.{contents-good}
 use Rattle.book.proofs.Laws.Only.{one-number}
 use Rattle.listing.specs.Listing.{tableAmount, bodyLine, bodyLines}

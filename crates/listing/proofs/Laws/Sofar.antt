@@ -15,8 +15,9 @@ use Rattle.lines_words.specs.Overlay.{top, TextLaid}
 use Rattle.lines.specs.Lines.{bookLine, refusedLine}
 use Rattle.lines_words.proofs.Laws.Laid.{laid-none, laid-length, laid-more, laid-text}
 use Rattle.book.specs.Book.{BookNumber}
-use Rattle.book.specs.declared.Body.{Body}
-use Rattle.book.specs.Read.{refusal, ReadsBody}
+use Rattle.book_bodies.specs.declared.Body.{Body}
+use Rattle.book.specs.Read.{ReadsBody}
+use Rattle.book_bodies.specs.Answer.{refusal}
 use Rattle.contents.proofs.Laws.Good.{good}
 use Rattle.book.proofs.Laws.Number.{contents-good}
 use Rattle.book.proofs.Laws.Read.{reads-refused}

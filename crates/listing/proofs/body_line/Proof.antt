@@ -6,7 +6,7 @@ use Prim.Native.Nat.{ℕ}
 use Rattle.exact.specs.declared.Amount.{Amount}
 use Rattle.state.specs.Entry.{ties}
 use Rattle.lines.specs.Lines.{tableLine}
-use Rattle.book.specs.declared.Said.{Said}
+use Rattle.book_bodies.specs.declared.Said.{Said}
 use Rattle.lines_words.proofs.Laws.Laid.{laid-none, laid-text}
 use Rattle.listing.specs.Listing.{bodyLine}
 use Rattle.listing.proofs.body_line.Statement.{statement}

@@ -12,9 +12,11 @@ use Rattle.state.specs.Normal.{Normal}
 use Rattle.body_pack.specs.Packed.{packedTable, unpacked}
 use Rattle.body_write.specs.Body as pack
 use Rattle.body_pack.proofs.Laws.Entry.{packed-entry}
-use Rattle.book.specs.declared.Body.{Body}
-use Rattle.book.specs.Book.{bytesOf, TableNumber}
-use Rattle.book.specs.Read.{tableBody, TableAnswer, ReadsBody}
+use Rattle.book_bodies.specs.declared.Body.{Body}
+use Rattle.book.specs.Book.{bytesOf}
+use Rattle.book_bodies.specs.Number.{TableNumber}
+use Rattle.book.specs.Read.{ReadsBody}
+use Rattle.book_bodies.specs.Answer.{tableBody, TableAnswer}
 use Rattle.book.proofs.Laws.Only.{one-number}
 use Rattle.theorem_round_trip.specs.Book.{Holds}
 use Rattle.theorem_round_trip.proofs.Laws.Back.{written-fine, written-table, written-normal}

@@ -9,7 +9,8 @@ use Rattle.exact.specs.Refusal.{accepted, badBody}
 use Rattle.contents.specs.Contents.{countOf, widthOf}
 use Rattle.body_bytes.specs.Body.{bodyFault}
 use Rattle.body_bytes.proofs.Laws.Fine.{fine}
-use Rattle.book.specs.Book.{bytesOf, TableNumber, BodyNumber, BodiesNumber, BookNumber}
+use Rattle.book.specs.Book.{bytesOf, BodyNumber, BodiesNumber, BookNumber}
+use Rattle.book_bodies.specs.Number.{TableNumber}
 use Rattle.theorem_whole.specs.Text.{TableRefusal, BodyRefusal, FirstRefusal, BookRefusal}
 use Rattle.theorem_whole.proofs.Laws.Normal.{to-bytes, from-bytes}
 

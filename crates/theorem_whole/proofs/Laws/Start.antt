@@ -14,9 +14,10 @@ use Rattle.body_bytes.specs.Body.{bodyFault}
 use Rattle.body_read.specs.declared.Reading.{Reading}
 use Rattle.body_read.specs.Table.{tableOf}
 use Rattle.body_read.specs.Read.{Reads}
-use Rattle.book.specs.declared.Body.{Body}
+use Rattle.book_bodies.specs.declared.Body.{Body}
 use Rattle.book.specs.Book.{bytesOf}
-use Rattle.book.specs.Read.{saidNumber, TableAnswer, ReadsBody}
+use Rattle.book.specs.Read.{ReadsBody}
+use Rattle.book_bodies.specs.Answer.{saidNumber, TableAnswer}
 use Rattle.theorem_history.specs.Meaning.{ownMeaning}
 use Rattle.theorem_history.specs.History.{Reached, from-table}
 use Rattle.theorem_whole.specs.Text.{entryOf}

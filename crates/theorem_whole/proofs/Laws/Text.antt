@@ -10,9 +10,10 @@ use Rattle.exact.proofs.Laws.Bias.{is-only}
 use Rattle.bits.proofs.Laws.Bit.{same-or}
 use Rattle.contents.specs.Contents.{editionOf, countOf, kindOf, widthOf, entryOf}
 use Rattle.contents.proofs.Laws.Good.{good}
-use Rattle.book.specs.declared.Body.{Body}
+use Rattle.book_bodies.specs.declared.Body.{Body}
 use Rattle.book.specs.Book.{bytesOf, BodyNumber, Clear, Refuses, BookNumber}
-use Rattle.book.specs.Read.{BodyAnswer, ReadsBody}
+use Rattle.book.specs.Read.{ReadsBody}
+use Rattle.book_bodies.specs.Answer.{BodyAnswer}
 use Rattle.book.proofs.Laws.Only.{one-number}
 use Rattle.book.proofs.Laws.Number.{contents-good}
 use Rattle.lines.specs.Lines.{bookLine, circuitLine, refusedLine}

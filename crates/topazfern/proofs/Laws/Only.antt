@@ -17,10 +17,10 @@ use Rattle.body_write.specs.Write.{BodyWritten}
 use Rattle.body_write.proofs.Laws.Only.{one-written}
 use Rattle.listing.specs.Listing.{tableAmount}
 use Rattle.circuit.proofs.Laws.Only.{one-amplitude}
-use Rattle.book.specs.declared.Said.{Said}
-use Rattle.book.specs.declared.Said.the-variants.{Refused, Circuit, Whole}
-use Rattle.book.specs.declared.Body.{Body}
-use Rattle.book.specs.Read.{saidNumber}
+use Rattle.book_bodies.specs.declared.Said.{Said}
+use Rattle.book_bodies.specs.declared.Said.the-variants.{Refused, Circuit, Whole}
+use Rattle.book_bodies.specs.declared.Body.{Body}
+use Rattle.book_bodies.specs.Answer.{saidNumber}
 use Rattle.book.proofs.Laws.Only.{one-body}
 use Rattle.topazfern.specs.Told.{Told, AnswerTold, AmplitudeTold, EntryTold, WriteTold, Shown, shown, ReadTold}
 

@@ -9,10 +9,11 @@ use Rattle.exact.specs.declared.Answer.{Answer}
 use Rattle.exact.specs.declared.Answer.the-variants.{Refused as NotGiven, Is}
 use Rattle.exact.specs.Answer.{numberOf, amountOf}
 use Rattle.state.specs.Entry.{ties}
-use Rattle.book.specs.declared.Said.{Said}
-use Rattle.book.specs.declared.Said.the-variants.{Refused, Circuit, Whole}
-use Rattle.book.specs.declared.Body.{Body}
-use Rattle.book.specs.Read.{saidNumber, saidAmount, ReadsBody}
+use Rattle.book_bodies.specs.declared.Said.{Said}
+use Rattle.book_bodies.specs.declared.Said.the-variants.{Refused, Circuit, Whole}
+use Rattle.book_bodies.specs.declared.Body.{Body}
+use Rattle.book.specs.Read.{ReadsBody}
+use Rattle.book_bodies.specs.Answer.{saidNumber, saidAmount}
 use Rattle.listing.specs.Listing.{tableAmount}
 use Rattle.topazfern.specs.Told.{Told, told, AnswerTold, Shown, shown, ReadTold}
 

@@ -2,9 +2,9 @@
 use borrow.Author.Needs.{needs}
 use mathlib.Core.Path.{sym}
 use native.Mathlib.Omega.{arith}
-use Rattle.book.proofs.Laws.Circuit.{short-number, number-law}
-use Rattle.book.proofs.circuit_fault.Statement.{statement}
-use Rattle.book.proofs.circuit_fault.Tie as tie
+use Rattle.book_bodies.proofs.Laws.Circuit.{short-number, number-law}
+use Rattle.book_bodies.proofs.circuit_fault.Statement.{statement}
+use Rattle.book_bodies.proofs.circuit_fault.Tie as tie
 
 returns : tie.Need-returns
 returns c =

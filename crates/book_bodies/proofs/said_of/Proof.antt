@@ -1,9 +1,9 @@
 -- `said_of` meets its contract: the case that the match found is the definition's.
 use borrow.Author.Needs.{needs}
 use mathlib.Core.Path.{sym, ap}
-use Rattle.book.specs.Inner.Said.{saidOf}
-use Rattle.book.proofs.said_of.Statement.{statement}
-use Rattle.book.proofs.said_of.Tie as tie
+use Rattle.book_bodies.specs.Inner.Said.{saidOf}
+use Rattle.book_bodies.proofs.said_of.Statement.{statement}
+use Rattle.book_bodies.proofs.said_of.Tie as tie
 
 enum-known-a : tie.Need-enum-known-a
 enum-known-a c = search needs

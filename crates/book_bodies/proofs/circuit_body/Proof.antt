@@ -1,9 +1,9 @@
 -- `circuit_body` meets its contract: too short, or the amplitude of the part behind the two strings.
 use borrow.Author.Needs.{needs}
 use native.Mathlib.Omega.{arith}
-use Rattle.book.proofs.Laws.Circuit.{circuit-short, circuit-law}
-use Rattle.book.proofs.circuit_body.Statement.{statement}
-use Rattle.book.proofs.circuit_body.Tie as tie
+use Rattle.book_bodies.proofs.Laws.Circuit.{circuit-short, circuit-law}
+use Rattle.book_bodies.proofs.circuit_body.Statement.{statement}
+use Rattle.book_bodies.proofs.circuit_body.Tie as tie
 
 refused-requires : tie.Need-refused-requires
 refused-requires c κs = search needs

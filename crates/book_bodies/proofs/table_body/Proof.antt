@@ -1,8 +1,8 @@
 -- `table_body` meets its contract: by the number of the reading.
 use borrow.Author.Needs.{needs}
-use Rattle.book.proofs.Laws.Table.{table-refused, table-whole}
-use Rattle.book.proofs.table_body.Statement.{statement}
-use Rattle.book.proofs.table_body.Tie as tie
+use Rattle.book_bodies.proofs.Laws.Table.{table-refused, table-whole}
+use Rattle.book_bodies.proofs.table_body.Statement.{statement}
+use Rattle.book_bodies.proofs.table_body.Tie as tie
 
 read-requires : tie.Need-read-requires
 read-requires c κs = search needs

@@ -1,8 +1,8 @@
 -- `table_fault` meets its contract: by the reading's number.
 use borrow.Author.Needs.{needs}
-use Rattle.book.proofs.Laws.Table.{table-number}
-use Rattle.book.proofs.table_fault.Statement.{statement}
-use Rattle.book.proofs.table_fault.Tie as tie
+use Rattle.book_bodies.proofs.Laws.Table.{table-number}
+use Rattle.book_bodies.proofs.table_fault.Statement.{statement}
+use Rattle.book_bodies.proofs.table_fault.Tie as tie
 
 read-requires : tie.Need-read-requires
 read-requires c κs = search needs

@@ -1,9 +1,9 @@
 -- `refused` meets its contract: the fresh table beside the number.
 use borrow.Author.Needs.{needs}
 use mathlib.Core.Path.{ap}
-use Rattle.book.specs.Read.{Refused, body}
-use Rattle.book.proofs.refused.Statement.{statement}
-use Rattle.book.proofs.refused.Tie as tie
+use Rattle.book_bodies.specs.Answer.{Refused, body}
+use Rattle.book_bodies.proofs.refused.Statement.{statement}
+use Rattle.book_bodies.proofs.refused.Tie as tie
 
 fresh-requires : tie.Need-fresh-requires
 fresh-requires c κs = search needs

@@ -12,9 +12,9 @@ use Rattle.gates.specs.Circuit.{circuitNumber}
 use Rattle.state.specs.Entry.{freshTable}
 use Rattle.state.specs.declared.State.{State}
 use Rattle.circuit.specs.Amplitude.{Amplitude}
-use Rattle.book.specs.Book.{inputOf, outputOf, gatesOf, circuitBodyNumber}
-use Rattle.book.specs.Read.{Said, Body, body, refusal, CircuitAnswer}
-use Rattle.book.specs.Inner.Said.{saidOf}
+use Rattle.book_bodies.specs.Number.{inputOf, outputOf, gatesOf, circuitBodyNumber}
+use Rattle.book_bodies.specs.Answer.{Said, Body, body, refusal, CircuitAnswer}
+use Rattle.book_bodies.specs.Inner.Said.{saidOf}
 
 module _ (ed n : ℕ) (bs : List ℕ) where
   pub short-number : length bs < 8 → circuitBodyNumber ed n bs ≡ 11

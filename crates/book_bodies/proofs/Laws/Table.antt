@@ -6,8 +6,8 @@ use Prim.Native.Nat.{ℕ}
 use native.Mathlib.Omega.{arith}
 use Rattle.body_read.specs.declared.Reading.{Reading}
 use Rattle.body_read.specs.Read.{Reads}
-use Rattle.book.specs.Book.{TableNumber}
-use Rattle.book.specs.Read.{Refused, Whole, body, TableAnswer}
+use Rattle.book_bodies.specs.Number.{TableNumber}
+use Rattle.book_bodies.specs.Answer.{Refused, Whole, body, TableAnswer}
 
 module _ (n : ℕ) (bs : List ℕ) (r : Reading) (R : Reads n bs r) where
   of : {s : Reading} → r ≡ s → r .refusal ≡ s .refusal
