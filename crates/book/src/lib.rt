@@ -4,7 +4,7 @@ ghost use Prim.Native.Nat.{_<_};
 ghost use Rattle.contents.specs.Contents.{editionOf, countOf, kindOf, widthOf, contentsNumber};
 ghost use Rattle.book.specs.Book.{bytesOf, BodyNumber, BookNumber};
 ghost use Rattle.book_bodies.specs.Answer.{BodyAnswer};
-ghost use Rattle.book.specs.Read.{BodyAt, ReadsBody};
+ghost use Rattle.book.specs.Read.{ReadsBody, ReadsStrict};
 use book_bodies::Body;
 
 // What body j of a book with good contents answers.
@@ -59,9 +59,9 @@ pub fn test(book: &[u8]) -> u8
     0
 }
 
-// What body j of a book answers once the contents are good, whatever its other bodies are: for a caller that has tested the book and would not test all of it again.
-pub fn body_at(book: &[u8], j: usize) -> Body
-    ensures { λ r. ⌜ BodyAt (now (book .entry)) j r ⌝ }
+// Body j of a book, whatever the other bodies are: refused by header or contents, then by 14 where there is no such body, then by its own number.
+pub fn read(book: &[u8], j: usize) -> Body
+    ensures { λ r. ⌜ ReadsBody (now (book .entry)) j r ⌝ }
 {
     let front = contents::test(book);
     if front != 0 {
@@ -73,13 +73,13 @@ pub fn body_at(book: &[u8], j: usize) -> Body
     body_in(book, j)
 }
 
-// Body j of a book: refused by the book's number, then by 14 where there is no such body.
-pub fn read(book: &[u8], j: usize) -> Body
-    ensures { λ r. ⌜ ReadsBody (now (book .entry)) j r ⌝ }
+// Body j of a book of which every body is good: refused by the book's number, then by 14 where there is no such body.
+pub fn read_strict(book: &[u8], j: usize) -> Body
+    ensures { λ r. ⌜ ReadsStrict (now (book .entry)) j r ⌝ }
 {
     let number = test(book);
     if number != 0 {
         return book_bodies::refused(number);
     }
-    body_at(book, j)
+    read(book, j)
 }

@@ -21,7 +21,7 @@ use Rattle.body_write.specs.declared.Written.{Written}
 use Rattle.body_write.specs.Write.{BodyWritten}
 use Rattle.book_bodies.specs.declared.Said.the-variants.{Refused, Circuit, Whole}
 use Rattle.book_bodies.specs.declared.Body.{Body}
-use Rattle.book.specs.Read.{ReadsBody}
+use Rattle.book.specs.Read.{ReadsStrict}
 use Rattle.book_bodies.specs.Answer.{saidNumber}
 use Rattle.listing.specs.Listing.{tableAmount}
 
@@ -106,7 +106,7 @@ shown k l m a = three k l m (told a)
 -- "kind (1 circuit, 2 table)": refused by its number, with the six as they were; or a circuit's amplitude; or a table's live bits, ties and amount
 pub record ReadTold (bs : List ℕ) (j : ℕ) (before : Shown) (n : ℕ) (after : Shown) : Type 0 where
   pub body : Body
-  pub reads : ReadsBody bs j body
+  pub reads : ReadsStrict bs j body
   pub number : n ≡ saidNumber (body .said)
   pub kept : (k : ℕ) → body .said ≡ Refused k → after ≡ before
   pub circuit : (a : Amount) → body .said ≡ Circuit a → after ≡ shown 1 0 0 a

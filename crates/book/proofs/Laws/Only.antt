@@ -9,7 +9,7 @@ use Rattle.bits.proofs.Laws.Bit.{same-or}
 use Rattle.contents.specs.Contents.{editionOf, countOf, kindOf, widthOf, entryOf, contentsNumber}
 use Rattle.contents.proofs.Laws.Good.{good}
 use Rattle.book.specs.Book.{bytesOf, BodyNumber, Clear, Refuses, BodiesNumber, BookNumber}
-use Rattle.book.specs.Read.{BodyAt, ReadsBody}
+use Rattle.book.specs.Read.{ReadsBody, ReadsStrict}
 use Rattle.book_bodies.specs.declared.Body.{Body}
 use Rattle.book_bodies.specs.Answer.{refusal, BodyAnswer}
 use Rattle.book_bodies.proofs.Laws.Only.{one-table-number, one-table-answer, one-circuit-answer}
@@ -53,14 +53,14 @@ module _ (bs : List ℕ) where
       ⊎-elim (λ c. one-circuit-answer (widthOf bs j) (bytesOf bs j) (editionOf bs) r s (a .circuit c) (b .circuit c))
       (λ c. one-table-answer (widthOf bs j) (bytesOf bs j) r s (a .table c) (b .table c)) (good bs z .body j h (entryOf bs j) refl .kind)
 
-  pub one-body-at : (j : ℕ) (r s : Body) → BodyAt bs j r → BodyAt bs j s → r ≡ s
-  one-body-at j r s R S =
+  pub one-body : (j : ℕ) (r s : Body) → ReadsBody bs j r → ReadsBody bs j s → r ≡ s
+  one-body j r s R S =
       ⊎-elim
       (λ z. ⊎-elim (λ h. answer-only z j h r s (R .answer z h) (S .answer z h)) (λ h. R .beyond z h ∙ sym (S .beyond z h)) (split j (countOf bs)))
       (λ ne. R .refused ne ∙ sym (S .refused ne)) (same-or (contentsNumber bs) 0)
 
-  -- ---- what reading a body answers
-  module _ (j : ℕ) (r s : Body) (R : ReadsBody bs j r) (S : ReadsBody bs j s) where
+  -- ---- what the strict reading of a body answers
+  module _ (j : ℕ) (r s : Body) (R : ReadsStrict bs j r) (S : ReadsStrict bs j s) where
     same : R .number ≡ S .number
     same = one-number (R .number) (S .number) (R .tested) (S .tested)
 
@@ -72,5 +72,5 @@ module _ (bs : List ℕ) where
     refused-only : R .number ≢ 0 → r ≡ s
     refused-only ne = R .refused ne ∙ sym (S .refused (λ z. ne (same ∙ z)) ∙ ap refusal (sym same))
 
-    pub one-body : r ≡ s
-    one-body = ⊎-elim accepted-only refused-only (same-or (R .number) 0)
+    pub one-strict : r ≡ s
+    one-strict = ⊎-elim accepted-only refused-only (same-or (R .number) 0)

@@ -3,12 +3,14 @@ use mathlib.Core.List.{List}
 use mathlib.Core.Path.{_≡_, refl, sym, ap, ap₂, _∙_, subst}
 use Prim.Native.Nat.{ℕ, _-_, _≤_, _<_}
 use native.Mathlib.Omega.{arith}
+use lib.Dec.{ltb}
 use lib.ListN.{length, take, drop}
 use borrow.Author.Tests.{lt-ltb, le-ltb}
 use Rattle.exact.specs.declared.Answer.{Answer}
 use Rattle.exact.specs.declared.Answer.the-variants.{Refused as NotGiven, Is}
 use Rattle.fields.proofs.Laws.Front.{lent-part}
 use Rattle.gates.specs.Circuit.{circuitNumber}
+use Rattle.gates.proofs.Laws.Small.{either-number, circuit-small}
 use Rattle.state.specs.Entry.{freshTable}
 use Rattle.state.specs.declared.State.{State}
 use Rattle.circuit.specs.Amplitude.{Amplitude}
@@ -24,6 +26,10 @@ module _ (ed n : ℕ) (bs : List ℕ) where
   long-number : 8 ≤ length bs → circuitBodyNumber ed n bs ≡ circuitNumber ed n (inputOf bs) (outputOf bs) (gatesOf bs)
   unfolding circuitBodyNumber
   long-number h = rw (le-ltb (length bs) 8 h)
+
+  pub circuit-body-small : circuitBodyNumber ed n bs ≤ 16
+  unfolding circuitBodyNumber
+  circuit-body-small = either-number (ltb (length bs) 8) _ _ (omega arith) (circuit-small ed n (inputOf bs) (outputOf bs) (gatesOf bs))
 
   pub circuit-short : (r : Body) → length bs < 8 → r ≡ refusal 11 → CircuitAnswer ed n bs r
   circuit-short r h e = record {

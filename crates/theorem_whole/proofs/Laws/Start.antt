@@ -16,7 +16,7 @@ use Rattle.body_read.specs.Table.{tableOf}
 use Rattle.body_read.specs.Read.{Reads}
 use Rattle.book_bodies.specs.declared.Body.{Body}
 use Rattle.book.specs.Book.{bytesOf}
-use Rattle.book.specs.Read.{ReadsBody}
+use Rattle.book.specs.Read.{ReadsStrict}
 use Rattle.book_bodies.specs.Answer.{saidNumber, TableAnswer}
 use Rattle.theorem_history.specs.Meaning.{ownMeaning}
 use Rattle.theorem_history.specs.History.{Reached, from-table}
@@ -39,7 +39,7 @@ reading-starts n bs r R e = starts n bs (r .table) fine (R .normal e) (ap (λ (s
     fine = unfaulted (bodyFault n bs) (r .refusal) e (λ h. ap (λ (s : Reading). s .refusal) (R .fault h))
 
 -- what `book::read` answers of a table without a refusal
-pub book-starts : (bs : List ℕ) (j : ℕ) (r : Body) → ReadsBody bs j r → j < countOf bs → kindOf bs j ≡ 2 → saidNumber (r .said) ≡ accepted
+pub book-starts : (bs : List ℕ) (j : ℕ) (r : Body) → ReadsStrict bs j r → j < countOf bs → kindOf bs j ≡ 2 → saidNumber (r .said) ≡ accepted
     → Starts (widthOf bs j) (bytesOf bs j) (r .table)
 book-starts bs j r R l k e = starts (widthOf bs j) (bytesOf bs j) (r .table) fine (A .normal e) (ap (λ (s : Body). s .table) (A .sound fine (A .normal e)))
   where

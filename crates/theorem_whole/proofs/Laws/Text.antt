@@ -12,7 +12,7 @@ use Rattle.contents.specs.Contents.{editionOf, countOf, kindOf, widthOf, entryO
 use Rattle.contents.proofs.Laws.Good.{good}
 use Rattle.book_bodies.specs.declared.Body.{Body}
 use Rattle.book.specs.Book.{bytesOf, BodyNumber, Clear, Refuses, BookNumber}
-use Rattle.book.specs.Read.{ReadsBody}
+use Rattle.book.specs.Read.{ReadsStrict}
 use Rattle.book_bodies.specs.Answer.{BodyAnswer}
 use Rattle.book.proofs.Laws.Only.{one-number}
 use Rattle.book.proofs.Laws.Number.{contents-good}
@@ -52,7 +52,7 @@ listing-text bs text L = record {
     each z j h =
         let B : BookNumber bs accepted = subst (BookNumber bs) z (L .tested) in
         let N : BodyNumber bs j accepted = clear-of bs B j h in
-        let R : ReadsBody bs j (L .bodies j) = L .read j h in
+        let R : ReadsStrict bs j (L .bodies j) = L .read j h in
         let A : BodyAnswer (editionOf bs) (kindOf bs j) (widthOf bs j) (bytesOf bs j) (L .bodies j) = R .answer (one-number bs (R .number) accepted (R .tested) B) h in
         record {
           circuit = λ k. let c = sym (N .circuit k) in circuit-line (editionOf bs) (widthOf bs j) j (bytesOf bs j) (L .bodies j) c (circuit-passed (editionOf bs) (widthOf bs j) (bytesOf bs j) c) (A .circuit k);

@@ -12,7 +12,7 @@ use Rattle.state.specs.Entry.{ties}
 use Rattle.book_bodies.specs.declared.Said.{Said}
 use Rattle.book_bodies.specs.declared.Said.the-variants.{Refused, Circuit, Whole}
 use Rattle.book_bodies.specs.declared.Body.{Body}
-use Rattle.book.specs.Read.{ReadsBody}
+use Rattle.book.specs.Read.{ReadsStrict}
 use Rattle.book_bodies.specs.Answer.{saidNumber, saidAmount}
 use Rattle.listing.specs.Listing.{tableAmount}
 use Rattle.topazfern.specs.Told.{Told, told, AnswerTold, Shown, shown, ReadTold}
@@ -60,7 +60,7 @@ no-table : (a : Amount) → Circuit a ≡ Whole → ⊥
 unfolding case
 no-table a e = let f : _≡_ {A = ℕ} 1 2 = ap case e in omega (arith, f)
 
-module _ (bs : List ℕ) (j : ℕ) (b : Body) (R : ReadsBody bs j b) (t : Shown) where
+module _ (bs : List ℕ) (j : ℕ) (b : Body) (R : ReadsStrict bs j b) (t : Shown) where
   pub read-refused : (k : ℕ) → b .said ≡ Refused k → ReadTold bs j t k t
   read-refused k e = record {
     body = b;
