@@ -21,6 +21,4 @@ pub record ReadsStrict (bs : List ℕ) (j : ℕ) (r : Body) : Type 0 where
   pub number : ℕ
   pub tested : BookNumber bs number
   pub refused : number ≢ accepted → r ≡ refusal number
-  -- 14: "no body of that number"
-  pub beyond : number ≡ accepted → countOf bs ≤ j → r ≡ refusal noBody
-  pub answer : number ≡ accepted → j < countOf bs → BodyAnswer (editionOf bs) (kindOf bs j) (widthOf bs j) (bytesOf bs j) r
+  pub read : number ≡ accepted → ReadsBody bs j r

@@ -18,7 +18,7 @@ use Rattle.book_bodies.specs.declared.Said.{Said}
 use Rattle.book_bodies.specs.declared.Said.the-variants.{Refused, Circuit, Whole}
 use Rattle.book_bodies.specs.declared.Body.{Body}
 use Rattle.book.specs.Book.{BookNumber}
-use Rattle.book.specs.Read.{ReadsBody, ReadsStrict}
+use Rattle.book.specs.Read.{ReadsBody}
 
 -- a table's power and phase, or zero
 abbrev pub tableAmount : State → Amount
@@ -46,10 +46,8 @@ pub record Listing (bs text : List ℕ) : Type 0 where
 pub record StrictListing (bs text : List ℕ) : Type 0 where
   pub number : ℕ
   pub tested : BookNumber bs number
-  pub bodies : ℕ → Body
-  pub read : (j : ℕ) → j < countOf bs → ReadsStrict bs j (bodies j)
   pub refused : number ≢ accepted → text ≡ refusedLine number
-  pub listed : number ≡ accepted → text ≡ bookLine (countOf bs) ++ bodyLines (countOf bs) bodies
+  pub listed : number ≡ accepted → Listing bs text
 
 -- a listing of a book, by what it is to be, shown at the front of an area xs that is now ys; r is its length
 pub record Shown (Is : List ℕ → Type 0) (xs ys : List ℕ) (r : ℕ) : Type 0 where

@@ -1,6 +1,6 @@
 -- No second result: of a body's number, of the book's, and of what reading a body answers. By the truth of each test.
 use mathlib.Core.List.{List}
-use mathlib.Core.Logic.{_≢_, inl, inr, ⊎-elim}
+use mathlib.Core.Logic.{inl, inr, ⊎-elim}
 use mathlib.Core.Path.{_≡_, refl, sym, ap, _∙_, subst}
 use Prim.Native.Nat.{ℕ, _<_}
 use native.Mathlib.Omega.{arith}
@@ -13,7 +13,6 @@ use Rattle.book.specs.Read.{ReadsBody, ReadsStrict}
 use Rattle.book_bodies.specs.declared.Body.{Body}
 use Rattle.book_bodies.specs.Answer.{refusal, BodyAnswer}
 use Rattle.book_bodies.proofs.Laws.Only.{one-table-number, one-table-answer, one-circuit-answer}
-use Rattle.book.proofs.Laws.Number.{contents-good}
 
 module _ (bs : List ℕ) where
   -- ---- a body's number, where the contents are good
@@ -60,17 +59,8 @@ module _ (bs : List ℕ) where
       (λ ne. R .refused ne ∙ sym (S .refused ne)) (same-or (contentsNumber bs) 0)
 
   -- ---- what the strict reading of a body answers
-  module _ (j : ℕ) (r s : Body) (R : ReadsStrict bs j r) (S : ReadsStrict bs j s) where
-    same : R .number ≡ S .number
-    same = one-number (R .number) (S .number) (R .tested) (S .tested)
-
-    accepted-only : R .number ≡ 0 → r ≡ s
-    accepted-only z =
-        ⊎-elim (λ h. answer-only (contents-good bs (R .number) (R .tested) z) j h r s (R .answer z h) (S .answer (sym same ∙ z) h))
-        (λ h. R .beyond z h ∙ sym (S .beyond (sym same ∙ z) h)) (split j (countOf bs))
-
-    refused-only : R .number ≢ 0 → r ≡ s
-    refused-only ne = R .refused ne ∙ sym (S .refused (λ z. ne (same ∙ z)) ∙ ap refusal (sym same))
-
-    pub one-strict : r ≡ s
-    one-strict = ⊎-elim accepted-only refused-only (same-or (R .number) 0)
+  pub one-strict : (j : ℕ) (r s : Body) → ReadsStrict bs j r → ReadsStrict bs j s → r ≡ s
+  one-strict j r s R S =
+      let same = one-number (R .number) (S .number) (R .tested) (S .tested) in
+      ⊎-elim (λ z. one-body j r s (R .read z) (S .read (sym same ∙ z)))
+      (λ ne. R .refused ne ∙ ap refusal same ∙ sym (S .refused (λ z. ne (same ∙ z)))) (same-or (R .number) 0)

@@ -9,7 +9,6 @@ use Rattle.book.specs.Book.{bytesOf, BookNumber}
 use Rattle.book.specs.Read.{ReadsBody, ReadsStrict}
 use Rattle.book_bodies.specs.declared.Body.{Body}
 use Rattle.book_bodies.specs.Answer.{refusal, BodyAnswer}
-use Rattle.book.proofs.Laws.Number.{contents-good}
 
 -- ---- a body on its own
 module _ (bs : List ℕ) (j : ℕ) (r : Body) where
@@ -38,19 +37,7 @@ module _ (bs : List ℕ) (j : ℕ) (r : Body) where
 -- ---- a body of a tested book
 module _ (bs : List ℕ) (j k : ℕ) (r : Body) (B : BookNumber bs k) where
   pub strict-refused : k ≢ 0 → r ≡ refusal k → ReadsStrict bs j r
-  strict-refused ne e = record {
-    number = k;
-    tested = B;
-    refused = λ h. e;
-    beyond = λ z h. absurd (ne z);
-    answer = λ z h. absurd (ne z);
-  }
+  strict-refused ne e = record { number = k; tested = B; refused = λ h. e; read = λ z. absurd (ne z) }
 
   pub strict-read : k ≡ 0 → ReadsBody bs j r → ReadsStrict bs j r
-  strict-read z A = record {
-    number = k;
-    tested = B;
-    refused = λ ne. absurd (ne z);
-    beyond = λ y l. A .beyond (contents-good bs k B z) l;
-    answer = λ y l. A .answer (contents-good bs k B z) l;
-  }
+  strict-read z A = record { number = k; tested = B; refused = λ ne. absurd (ne z); read = λ y. A }

@@ -8,7 +8,7 @@ use Rattle.contents.specs.Contents.{countOf, contentsNumber}
 use Rattle.lines.specs.Lines.{bookLine, refusedLine}
 use Rattle.lines_words.proofs.Laws.Laid.{laid-text}
 use Rattle.lines_words.proofs.Laws.Only.{one-overlay}
-use Rattle.book.proofs.Laws.Only.{one-number, one-body, one-strict}
+use Rattle.book.proofs.Laws.Only.{one-number, one-body}
 use Rattle.listing.specs.Listing.{bodyLines, Listing, StrictListing, Listed, ListedStrict}
 use Rattle.listing.proofs.Laws.Sofar.{lines-same}
 
@@ -29,19 +29,13 @@ one-listing bs xs ys zs p q L M =
     one-overlay (laid-text (one-text bs (L .text) (M .text) (L .listing) (M .listing)) (L .laid)) (M .laid)
 
 -- ---- the strict reading
-module _ (bs text more : List ℕ) (L : StrictListing bs text) (M : StrictListing bs more) where
-  same : L .number ≡ M .number
-  same = one-number bs (L .number) (M .number) (L .tested) (M .tested)
-
-  strict-bodies : bodyLines (countOf bs) (L .bodies) ≡ bodyLines (countOf bs) (M .bodies)
-  strict-bodies = lines-same (countOf bs) (L .bodies) (M .bodies) (λ j h. one-strict bs j (L .bodies j) (M .bodies j) (L .read j h) (M .read j h))
-
-  pub one-strict-text : text ≡ more
-  one-strict-text =
-      ⊎-elim
-      (λ (z : L .number ≡ 0). L .listed z ∙ ap (λ (l : List ℕ). bookLine (countOf bs) ++ l) strict-bodies ∙ sym (M .listed (sym same ∙ z)))
-      (λ (ne : L .number ≢ 0). L .refused ne ∙ ap refusedLine same ∙ sym (M .refused (λ z. ne (same ∙ z))))
-      (same-or (L .number) 0)
+pub one-strict-text : (bs text more : List ℕ) → StrictListing bs text → StrictListing bs more → text ≡ more
+one-strict-text bs text more L M =
+    let same = one-number bs (L .number) (M .number) (L .tested) (M .tested) in
+    ⊎-elim
+    (λ (z : L .number ≡ 0). one-text bs text more (L .listed z) (M .listed (sym same ∙ z)))
+    (λ (ne : L .number ≢ 0). L .refused ne ∙ ap refusedLine same ∙ sym (M .refused (λ z. ne (same ∙ z))))
+    (same-or (L .number) 0)
 
 pub one-strict-listing : (bs xs ys zs : List ℕ) (p q : ℕ) → ListedStrict bs xs ys p → ListedStrict bs xs zs q → (ys ≡ zs) × (p ≡ q)
 one-strict-listing bs xs ys zs p q L M =

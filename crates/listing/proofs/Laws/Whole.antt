@@ -9,7 +9,7 @@ use Rattle.lines.specs.Lines.{bookLine, refusedLine}
 use Rattle.book.specs.Book.{BookNumber}
 use Rattle.book_bodies.specs.Answer.{refusal}
 use Rattle.book.proofs.Laws.Number.{contents-good}
-use Rattle.book.proofs.Laws.Read.{reads-refused, strict-refused, strict-read}
+use Rattle.book.proofs.Laws.Read.{reads-refused}
 use Rattle.listing.specs.Listing.{bodyLines, Listed, ListedStrict}
 use Rattle.listing.specs.Inner.Bodies.{BodiesListed}
 use Rattle.listing.proofs.Laws.Short.{listed-short, refused-short}
@@ -41,32 +41,19 @@ module _ (bs xs ys : List ℕ) (r : ℕ) where
   module _ (k : ℕ) (T : BookNumber bs k) where
     -- all bodies are good
     pub listed-strict : k ≡ 0 → BodiesListed bs xs ys r → ListedStrict bs xs ys r
-    listed-strict z B = record {
-      text = bookLine (countOf bs) ++ bodyLines (countOf bs) (B .bodies);
-      listing = record {
-        number = k;
-        tested = T;
-        bodies = B .bodies;
-        read = λ j h. strict-read bs j k (B .bodies j) T z (B .read j h);
-        refused = λ ne. absurd (ne z);
-        listed = λ y. refl;
-      };
-      laid = B .laid;
-      short = listed-short bs (contents-good bs k T z) (B .bodies) (B .read);
-    }
+    listed-strict z B =
+        let L = listed (contents-good bs k T z) B in record {
+          text = L .text;
+          listing = record { number = k; tested = T; refused = λ ne. absurd (ne z); listed = λ y. L .listing };
+          laid = L .laid;
+          short = L .short;
+        }
 
     -- the book is refused
     pub single-strict : k < 256 → k ≢ 0 → TextLaid xs 0 (refusedLine k) ys r → ListedStrict bs xs ys r
     single-strict h ne l = record {
       text = refusedLine k;
-      listing = record {
-        number = k;
-        tested = T;
-        bodies = λ j. refusal k;
-        read = λ j _. strict-refused bs j k (refusal k) T ne refl;
-        refused = λ _. refl;
-        listed = λ z. absurd (ne z);
-      };
+      listing = record { number = k; tested = T; refused = λ _. refl; listed = λ z. absurd (ne z) };
       laid = l;
       short = refused-short k h;
     }
