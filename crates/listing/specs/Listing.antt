@@ -50,7 +50,7 @@ pub record StrictListing (bs text : List ℕ) : Type 0 where
   pub listed : number ≡ accepted → Listing bs text
 
 -- a listing of a book, by what it is to be, shown at the front of an area xs that is now ys; r is its length
-pub record Shown (Is : List ℕ → Type 0) (xs ys : List ℕ) (r : ℕ) : Type 0 where
+pub record ListedAs (Is : List ℕ → Type 0) (xs ys : List ℕ) (r : ℕ) : Type 0 where
   pub text : List ℕ
   pub listing : Is text
   pub laid : TextLaid xs 0 text ys r
@@ -58,7 +58,7 @@ pub record Shown (Is : List ℕ → Type 0) (xs ys : List ℕ) (r : ℕ) : Type 
   pub short : length text ≤ 312
 
 abbrev pub Listed : List ℕ → List ℕ → List ℕ → ℕ → Type 0
-Listed bs = Shown (Listing bs)
+Listed bs = ListedAs (Listing bs)
 
 abbrev pub ListedStrict : List ℕ → List ℕ → List ℕ → ℕ → Type 0
-ListedStrict bs = Shown (StrictListing bs)
+ListedStrict bs = ListedAs (StrictListing bs)

@@ -1,8 +1,8 @@
 -- `answer` meets its contract: the case that the match found.
-use Rattle.topazfern.proofs.Laws.Tell.{tells-refused, tells-given}
+use Rattle.told.proofs.Laws.Tell.{tells-refused, tells-given}
 use borrow.Author.Needs.{needs}
-use Rattle.topazfern.proofs.answer.Statement.{statement}
-use Rattle.topazfern.proofs.answer.Tie as tie
+use Rattle.told.proofs.answer.Statement.{statement}
+use Rattle.told.proofs.answer.Tie as tie
 
 enum-known-a : tie.Need-enum-known-a
 enum-known-a c = search needs

@@ -3,10 +3,10 @@ use mathlib.Core.Path.{sym, ap, _∙_}
 use mir.Syntax.{w32}
 use mir.ValLaws.{toZ-ofZ}
 use lib.IntN.{ℤ}
-use Rattle.topazfern.specs.Told.{behind, told}
+use Rattle.told.specs.Told.{behind, told}
 use borrow.Author.Needs.{needs}
-use Rattle.topazfern.proofs.tell.Statement.{statement}
-use Rattle.topazfern.proofs.tell.Tie as tie
+use Rattle.told.proofs.tell.Statement.{statement}
+use Rattle.told.proofs.tell.Tie as tie
 
 enum-told : tie.Need-enum-told
 enum-told c = search needs

@@ -1,5 +1,4 @@
 -- What is told on each way through the code, case by case of the answer or of the body.
-use mathlib.Core.List.{List}
 use mathlib.Core.Path.{_≡_, refl, sym, ap, _∙_}
 use Prim.Native.Nat.{ℕ}
 use native.Mathlib.Omega.{arith}
@@ -12,10 +11,9 @@ use Rattle.state.specs.Entry.{ties}
 use Rattle.book_bodies.specs.declared.Said.{Said}
 use Rattle.book_bodies.specs.declared.Said.the-variants.{Refused, Circuit, Whole}
 use Rattle.book_bodies.specs.declared.Body.{Body}
-use Rattle.book.specs.Read.{ReadsStrict}
 use Rattle.book_bodies.specs.Answer.{saidNumber, saidAmount}
 use Rattle.listing.specs.Listing.{tableAmount}
-use Rattle.topazfern.specs.Told.{Told, told, AnswerTold, Shown, shown, ReadTold}
+use Rattle.told.specs.Told.{Told, told, AnswerTold, Shown, shown, BodyTold}
 
 -- ---- an answer
 -- the cases differ
@@ -60,31 +58,25 @@ no-table : (a : Amount) → Circuit a ≡ Whole → ⊥
 unfolding case
 no-table a e = let f : _≡_ {A = ℕ} 1 2 = ap case e in omega (arith, f)
 
-module _ (bs : List ℕ) (j : ℕ) (b : Body) (R : ReadsStrict bs j b) (t : Shown) where
-  pub read-refused : (k : ℕ) → b .said ≡ Refused k → ReadTold bs j t k t
-  read-refused k e = record {
-    body = b;
-    reads = R;
+module _ (b : Body) (t : Shown) where
+  pub body-refused : (k : ℕ) → b .said ≡ Refused k → BodyTold b t k t
+  body-refused k e = record {
     number = sym (ap saidNumber e);
     kept = λ i f. refl;
     circuit = λ a f. absurd (no-circuit k a (sym e ∙ f));
     table = λ f. absurd (no-whole k (sym e ∙ f));
   }
 
-  pub read-circuit : (a : Amount) (u : Shown) → b .said ≡ Circuit a → u ≡ shown 1 0 0 a → ReadTold bs j t 0 u
-  read-circuit a u e g = record {
-    body = b;
-    reads = R;
+  pub body-circuit : (a : Amount) (u : Shown) → b .said ≡ Circuit a → u ≡ shown 1 0 0 a → BodyTold b t 0 u
+  body-circuit a u e g = record {
     number = sym (ap saidNumber e);
     kept = λ k f. absurd (no-circuit k a (sym f ∙ e));
     circuit = λ m f. g ∙ ap (λ (s : Said). shown 1 0 0 (saidAmount s)) (sym e ∙ f);
     table = λ f. absurd (no-table a (sym e ∙ f));
   }
 
-  pub read-table : (u : Shown) → b .said ≡ Whole → u ≡ shown 2 (ones (b .table .live)) (ties (b .table)) (tableAmount (b .table)) → ReadTold bs j t 0 u
-  read-table u e g = record {
-    body = b;
-    reads = R;
+  pub body-table : (u : Shown) → b .said ≡ Whole → u ≡ shown 2 (ones (b .table .live)) (ties (b .table)) (tableAmount (b .table)) → BodyTold b t 0 u
+  body-table u e g = record {
     number = sym (ap saidNumber e);
     kept = λ k f. absurd (no-whole k (sym f ∙ e));
     circuit = λ a f. absurd (no-table a (sym f ∙ e));
