@@ -63,9 +63,9 @@ pub fn test(book: &[u8]) -> u8
 pub fn read(book: &[u8], j: usize) -> Body
     ensures { λ r. ⌜ ReadsBody (now (book .entry)) j r ⌝ }
 {
-    let front = contents::test(book);
-    if front != 0 {
-        return book_bodies::refused(front);
+    let refusal = contents::test(book);
+    if refusal != 0 {
+        return book_bodies::refused(refusal);
     }
     if j >= contents::count(book) {
         return book_bodies::refused(exact::NO_BODY);

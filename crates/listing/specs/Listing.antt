@@ -1,34 +1,17 @@
 -- The listing of a book as text: the count, a line for each body; or the single line of a refused book.
-use mathlib.Core.Bool.{cond}
 use mathlib.Core.List.{List, [], _++_}
 use mathlib.Core.Logic.{_≢_}
 use mathlib.Core.Path.{_≡_}
 use Prim.Native.Nat.{ℕ, zero, suc, _≤_, _<_}
 use lib.ListN.{length}
-use lib.Count.{ones}
 use Rattle.exact.specs.Refusal.{accepted}
-use Rattle.exact.specs.declared.Amount.{Amount}
-use Rattle.exact.specs.Amount.{none, some}
-use Rattle.state.specs.declared.State.{State}
-use Rattle.state.specs.Entry.{ties}
 use Rattle.contents.specs.Contents.{countOf, contentsNumber}
 use Rattle.lines_words.specs.Overlay.{TextLaid}
-use Rattle.lines.specs.Lines.{bookLine, circuitLine, tableLine, refusedLine, refusedBodyLine}
-use Rattle.book_bodies.specs.declared.Said.{Said}
-use Rattle.book_bodies.specs.declared.Said.the-variants.{Refused, Circuit, Whole}
+use Rattle.lines.specs.Lines.{bookLine, refusedLine}
 use Rattle.book_bodies.specs.declared.Body.{Body}
+use Rattle.listing_line.specs.Line.{bodyLine}
 use Rattle.book.specs.Book.{BookNumber}
 use Rattle.book.specs.Read.{ReadsBody}
-
--- a table's power and phase, or zero
-abbrev pub tableAmount : State → Amount
-tableAmount t = cond (t .zero) none (some (t .power .0) (t .form .phase .0))
-
--- "for each body: number, `C`, power, phase; or number, `T`, live, ties, power, phase"; "`1 refused 7` in place of the answer"
-unfoldable pub bodyLine : ℕ → Said → State → List ℕ
-bodyLine j (Refused k) t = refusedBodyLine j k
-bodyLine j (Circuit a) t = circuitLine j a
-bodyLine j Whole t = tableLine j (ones (t .live)) (ties t) (tableAmount t)
 
 -- the lines of the first n bodies
 unfoldable pub bodyLines : ℕ → (ℕ → Body) → List ℕ

@@ -1,43 +1,8 @@
 // The listing of a book, written into a lent area.
 ghost use mathlib.Core.Path.{_≡_};
-ghost use Rattle.lines_words.specs.Overlay.{TextLaid};
 ghost use Rattle.contents.specs.Contents.{contentsNumber};
-ghost use Rattle.listing.specs.Listing.{tableAmount, bodyLine, Listed, ListedStrict};
+ghost use Rattle.listing.specs.Listing.{Listed, ListedStrict};
 ghost use Rattle.listing.specs.Inner.Bodies.{BodiesListed};
-use book_bodies::Body;
-use book_bodies::Said;
-use exact::Amount;
-use state::State;
-
-// What a table's line shows as its amount: zero, or its power and its phase.
-pub fn table_amount(t: State) -> Amount
-    ensures { λ r. ⌜ r ≡ tableAmount t ⌝ }
-{
-    if t.zero {
-        return Amount::Zero;
-    }
-    let power = t.power;
-    let form = t.form;
-    let phase = form.phase;
-    Amount::Some(power, phase)
-}
-
-// The line of body j, from a place of the area on.
-fn body_line(area: &mut [u8], at: usize, j: u8, b: Body) -> usize
-    ensures { λ r. ⌜ TextLaid (now (area .entry)) at (bodyLine j (b .said) (b .table)) (now (area .exit)) r ⌝ }
-{
-    let t = b.table;
-    let s = b.said;
-    match s {
-        Said::Refused(k) => lines::refused_body_line(area, at, j, k),
-        Said::Circuit(a) => lines::circuit_line(area, at, j, a),
-        Said::Whole => {
-            let live = bits::count(t.live);
-            let ties = t.ties.count;
-            lines::table_line(area, at, j, live, ties, table_amount(t))
-        }
-    }
-}
 
 // The first line and the line of each body of a book with good contents, at the front of an area.
 fn list_bodies(book: &[u8], area: &mut [u8]) -> usize
@@ -49,7 +14,7 @@ fn list_bodies(book: &[u8], area: &mut [u8]) -> usize
     let mut j = 0usize;
     while j < n {
         let b = book::read(book, j);
-        at = body_line(area, at, j as u8, b);
+        at = listing_line::body_line(area, at, j as u8, b);
         j += 1;
     }
     at
@@ -59,9 +24,9 @@ fn list_bodies(book: &[u8], area: &mut [u8]) -> usize
 pub fn list(book: &[u8], area: &mut [u8]) -> usize
     ensures { λ r. ⌜ Listed (now (book .entry)) (now (area .entry)) (now (area .exit)) r ⌝ }
 {
-    let number = contents::test(book);
-    if number != 0 {
-        return lines::refused_line(area, 0, number);
+    let front = contents::test(book);
+    if front != 0 {
+        return lines::refused_line(area, 0, front);
     }
     list_bodies(book, area)
 }

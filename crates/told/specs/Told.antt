@@ -12,7 +12,7 @@ use Rattle.state.specs.Entry.{ties}
 use Rattle.book_bodies.specs.declared.Said.the-variants.{Refused, Circuit, Whole}
 use Rattle.book_bodies.specs.declared.Body.{Body}
 use Rattle.book_bodies.specs.Answer.{saidNumber}
-use Rattle.listing.specs.Listing.{tableAmount}
+use Rattle.listing_line.specs.Line.{tableAmount}
 
 -- ---- an amount as three numbers
 -- 1 for zero, or else 0

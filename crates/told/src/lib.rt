@@ -66,7 +66,7 @@ pub fn tell_body(
             *kind = 2;
             *live = bits::count(t.live);
             *ties = t.ties.count;
-            tell(listing::table_amount(t), zero, power, phase);
+            tell(listing_line::table_amount(t), zero, power, phase);
             0
         }
     }

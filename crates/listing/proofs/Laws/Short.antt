@@ -29,7 +29,8 @@ use Rattle.book_bodies.specs.Number.{circuitBodyNumber}
 use Rattle.book.specs.Read.{ReadsBody}
 use Rattle.book_bodies.specs.Answer.{refusal, tableBody, saidNumber, saidAmount, CircuitAnswer, TableAnswer}
 use Rattle.book_bodies.proofs.Laws.Circuit.{circuit-body-small}
-use Rattle.listing.specs.Listing.{tableAmount, bodyLine, bodyLines}
+use Rattle.listing_line.specs.Line.{tableAmount, bodyLine}
+use Rattle.listing.specs.Listing.{bodyLines}
 
 -- ---- amounts
 circuit-range : (a : Amount) → Small a → Near a → InRange a

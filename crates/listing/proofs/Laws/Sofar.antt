@@ -18,7 +18,8 @@ use Rattle.book_bodies.specs.declared.Body.{Body}
 use Rattle.book.specs.Read.{ReadsBody}
 use Rattle.book_bodies.specs.Answer.{refusal}
 use Rattle.contents.proofs.Laws.Good.{good}
-use Rattle.listing.specs.Listing.{bodyLine, bodyLines}
+use Rattle.listing_line.specs.Line.{bodyLine}
+use Rattle.listing.specs.Listing.{bodyLines}
 use Rattle.listing.specs.Inner.Bodies.{BodiesListed}
 
 -- a book with good contents has at most 16 bodies

@@ -21,7 +21,7 @@ use Rattle.book_bodies.specs.declared.Body.{Body}
 use Rattle.book_bodies.specs.Number.{inputOf, outputOf, gatesOf, circuitBodyNumber, TableNumber}
 use Rattle.book_bodies.specs.Answer.{saidAmount, CircuitAnswer, TableAnswer}
 use Rattle.lines.specs.Lines.{tableLine}
-use Rattle.listing.specs.Listing.{bodyLine}
+use Rattle.listing_line.specs.Line.{bodyLine}
 use Rattle.theorem_whole.specs.Text.{CircuitLine, stated}
 
 -- the mask of the n lowest bits has n of them

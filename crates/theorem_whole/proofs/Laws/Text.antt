@@ -19,7 +19,8 @@ use Rattle.book_bodies.specs.Number.{TableNumber}
 use Rattle.book_bodies.specs.Answer.{saidNumber, BodyAnswer}
 use Rattle.book.proofs.Laws.Only.{body-number, one-number}
 use Rattle.lines.specs.Lines.{bookLine, circuitLine, refusedLine, refusedBodyLine}
-use Rattle.listing.specs.Listing.{bodyLine, bodyLines, Listing, StrictListing, Listed, ListedStrict}
+use Rattle.listing_line.specs.Line.{bodyLine}
+use Rattle.listing.specs.Listing.{bodyLines, Listing, StrictListing, Listed, ListedStrict}
 use Rattle.theorem_whole.specs.Text.{CircuitLine, LineOf, linesOf, Text, StrictText}
 use Rattle.lines_words.specs.Overlay.{top}
 use Rattle.listing.proofs.Laws.Fits.{listed-front}

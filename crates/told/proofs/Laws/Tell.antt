@@ -12,7 +12,7 @@ use Rattle.book_bodies.specs.declared.Said.{Said}
 use Rattle.book_bodies.specs.declared.Said.the-variants.{Refused, Circuit, Whole}
 use Rattle.book_bodies.specs.declared.Body.{Body}
 use Rattle.book_bodies.specs.Answer.{saidNumber, saidAmount}
-use Rattle.listing.specs.Listing.{tableAmount}
+use Rattle.listing_line.specs.Line.{tableAmount}
 use Rattle.told.specs.Told.{Told, told, AnswerTold, Shown, shown, BodyTold}
 
 -- ---- an answer

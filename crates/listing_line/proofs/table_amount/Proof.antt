@@ -1,11 +1,11 @@
--- `listing::table_amount` meets its contract: where the mark is not set, the fields are read as they stand.
+-- `table_amount` meets its contract: where the mark is not set, the fields are read as they stand.
 use borrow.Author.Needs.{needs}
 use mathlib.Core.Bool.{Bool, cond}
 use mathlib.Core.Path.{sym, ap}
 use Rattle.exact.specs.Amount.{none}
 use Rattle.exact.specs.declared.Amount.the-variants.{Some}
-use Rattle.listing.proofs.table_amount.Statement.{statement}
-use Rattle.listing.proofs.table_amount.Tie as tie
+use Rattle.listing_line.proofs.table_amount.Statement.{statement}
+use Rattle.listing_line.proofs.table_amount.Tie as tie
 
 returns : tie.Need-returns
 returns c = search needs

@@ -1,4 +1,4 @@
--- `listing::body_line` meets its contract: the case that the match found is the definition's.
+-- `body_line` meets its contract: the case that the match found is the definition's.
 use borrow.Author.Needs.{needs}
 use mathlib.Core.Path.{sym, ap, ap₂, _∙_}
 use Prim.Native.Nat.{ℕ}
@@ -7,9 +7,9 @@ use Rattle.state.specs.Entry.{ties}
 use Rattle.lines.specs.Lines.{tableLine}
 use Rattle.book_bodies.specs.declared.Said.{Said}
 use Rattle.lines_words.proofs.Laws.Laid.{laid-text}
-use Rattle.listing.specs.Listing.{bodyLine}
-use Rattle.listing.proofs.body_line.Statement.{statement}
-use Rattle.listing.proofs.body_line.Tie as tie
+use Rattle.listing_line.specs.Line.{bodyLine}
+use Rattle.listing_line.proofs.body_line.Statement.{statement}
+use Rattle.listing_line.proofs.body_line.Tie as tie
 
 enum-known-s : tie.Need-enum-known-s
 enum-known-s c = search needs
