@@ -1,0 +1,6 @@
+pub mod Steps
+pub mod Spans
+pub mod Number
+pub mod Plain
+pub mod Worked
+pub mod Only
