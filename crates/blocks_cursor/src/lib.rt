@@ -1,7 +1,7 @@
-// Inner: a cursor of fixed size that goes from gate to gate of a body's expansion, which is never written out. Asks of its callers bytes whose blocks are not at fault and whose counts are not 0, and a gate still to come (`Ready`).
+// Inner: a cursor of fixed size that goes through a body's expansion, gate by gate, without writing it out. Asks of its callers bytes whose blocks are not at fault and whose counts are not 0, and that the cursor stands at an item (`At`).
 ghost use mathlib.Core.Path.{_≡_};
 ghost use Prim.Native.Nat.{_<_, _≤_};
-ghost use Rattle.blocks_cursor.specs.Inner.Cursor.{front, inside, outside, past, Sort, Marked, Passes, Ready, AtGate};
+ghost use Rattle.blocks_cursor.specs.Inner.Cursor.{front, inside, outside, past, Sort, Marked, Passes};
 
 // Where a run through the expansion stands: at item `at`, with `depth` blocks open; of each the number of its first item, and how often it is run again.
 pub struct Cursor {
@@ -55,8 +55,8 @@ fn left(mut c: Cursor) -> Cursor
     c
 }
 
-// One mark passed.
-fn passed(c: Cursor, items: &[u8]) -> Cursor
+// Behind the mark at which the cursor stands: in its block, or out of it, or in it once more.
+pub fn passed(c: Cursor, items: &[u8]) -> Cursor
     requires { ⌜ Marked (now items) c ⌝ }
     ensures { λ r. ⌜ Passes (now (items .entry)) c r ⌝ }
 {
@@ -70,7 +70,7 @@ fn passed(c: Cursor, items: &[u8]) -> Cursor
 }
 
 // Whether a code is a gate's: it neither opens nor closes a block.
-fn is_gate(code: u8) -> bool
+pub fn is_gate(code: u8) -> bool
     ensures { λ r. ⌜ Sort code r ⌝ }
 {
     if code == 64 {
@@ -82,23 +82,7 @@ fn is_gate(code: u8) -> bool
     true
 }
 
-// The cursor at the next gate.
-pub fn to_gate(c: Cursor, items: &[u8]) -> Cursor
-    requires { ⌜ Ready (now items) c ⌝ }
-    ensures { λ r. ⌜ AtGate (now (items .entry)) c r ⌝ }
-{
-    let mut r = c;
-    loop {
-        let at = r.at;
-        let code = items[3 * at];
-        if is_gate(code) {
-            return r;
-        }
-        r = passed(r, items);
-    }
-}
-
-// The cursor behind the gate at which it stands.
+// Behind the gate at which the cursor stands.
 pub fn behind(mut c: Cursor) -> Cursor
     requires { ⌜ c .at < 4096 ⌝ }
     ensures { λ r. ⌜ r ≡ past c ⌝ }

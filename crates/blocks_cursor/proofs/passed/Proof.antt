@@ -23,16 +23,16 @@ shared-slice-read-times : tie.Need-shared-slice-read-times
 shared-slice-read-times c = search needs
 
 entered-requires : tie.Need-entered-requires
-entered-requires c κs = (omega (arith, c .before .before .before .before .pre .range, c .before .before .before .before .pre .ready .held .few), open-room _ _ (c .before .before .before .before .pre .ready) (c .before .if1 .taken), c .before .before .before .before .pre .ready .held .counts _ (c .before .before .before .before .pre .range) (c .before .if1 .taken))
+entered-requires c κs = (omega (arith, c .before .before .before .before .pre .at .range, c .before .before .before .before .pre .at .held .few), open-room _ _ (c .before .before .before .before .pre .at) (c .before .if1 .taken), c .before .before .before .before .pre .at .held .counts _ (c .before .before .before .before .pre .at .range) (c .before .if1 .taken))
 
 returns : tie.Need-returns
-returns c = subst (Passes (c .before .before .before .before .before .args .items .now) (c .before .before .before .before .before .args .c)) (sym (c .entered .ensures)) (enter-law _ _ (c .before .before .before .before .before .pre .ready) (c .before .before .if1 .taken))
+returns c = subst (Passes (c .before .before .before .before .before .args .items .now) (c .before .before .before .before .before .args .c)) (sym (c .entered .ensures)) (enter-law _ _ (c .before .before .before .before .before .pre .at) (c .before .before .if1 .taken))
 
 left-requires : tie.Need-left-requires
-left-requires c κs = (omega (arith, c .before .before .before .pre .range, c .before .before .before .pre .ready .held .few), close-room _ _ (c .before .before .before .pre .ready) (c .before .before .before .pre .mark (c .if1 .left)), c .before .before .before .pre .ready .held .deep)
+left-requires c κs = (omega (arith, c .before .before .before .pre .at .range, c .before .before .before .pre .at .held .few), close-room _ _ (c .before .before .before .pre .at) (c .before .before .before .pre .mark (c .if1 .left)), c .before .before .before .pre .at .held .deep)
 
 returns-2 : tie.Need-returns-2
-returns-2 c = subst (Passes (c .before .before .before .before .args .items .now) (c .before .before .before .before .args .c)) (sym (c .left .ensures)) (leave-law _ _ (c .before .before .before .before .pre .ready) (c .before .before .before .before .pre .mark (c .before .if1 .left)))
+returns-2 c = subst (Passes (c .before .before .before .before .args .items .now) (c .before .before .before .before .args .c)) (sym (c .left .ensures)) (leave-law _ _ (c .before .before .before .before .pre .at) (c .before .before .before .before .pre .mark (c .before .if1 .left)))
 
 pub passed-spec : {M : Type 1} → statement M
 passed-spec =
