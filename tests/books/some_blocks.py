@@ -224,9 +224,10 @@ def gate_and_blocks(rng):
 
 
 def circuit_and_blocks(rng):
-    """11, 6 and 8 before 16."""
+    """9, 11, 6 and 8 before 16."""
     for _ in range(4):
         kind, width, data = refused(rng)
+        yield "letters and blocks", b"\x4E" + among(rng, [(kind, width, data)])[1:]
         yield "length and blocks", among(rng, [(kind, width, data + rng.choice([b"\1", b"\1\0"]))])
         yield "width and blocks", among(rng, [(kind, rng.choice([0, 32, 255]), data)])
         yield "string and blocks", among(rng, [(kind, width, (1 << 31).to_bytes(4, "little") + data[4:])])
