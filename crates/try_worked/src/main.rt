@@ -1,4 +1,4 @@
-// The cases of document 01 that are worked by hand, run by the code: a line for each, in that paper's order, then the spreads of request A1 and the cases of request A6. The expected lines are worked by hand.
+// The cases of document 01 that are worked by hand, run by the code: a line for each, in that paper's order, with those of both editions and of repeated blocks, then the spreads of request A1 and the cases of request A6. The expected lines are worked by hand.
 use call_answers::Counted;
 use doubles::Doubles;
 use exact::Amount;
@@ -203,6 +203,84 @@ fn editions() {
     show(b"edition 3", circuit::amplitude(3, 0, 0, 0, b"\x01\x00"));
 }
 
+// Repeated blocks: what bodies of edition 2 mean.
+fn blocks() {
+    let thrice = b"\x40\x03\x00\x01\x00\x00\x02\x00\x00\x41\x00\x00";
+    show(
+        b"three times (H, S): 0 to 0",
+        circuit::amplitude(2, 1, 0, 0, thrice),
+    );
+    let often = b"\x40\xFF\x00\x05\x00\x00\x41\x00\x00";
+    show(
+        b"255 times X: 0 to 1",
+        circuit::amplitude(2, 1, 0, 1, often),
+    );
+    let nested = b"\x40\x02\x00\x02\x00\x00\x40\x03\x00\x05\x00\x00\x41\x00\x00\x41\x00\x00";
+    show(
+        b"twice (S, three times X): 0 to 0",
+        circuit::amplitude(2, 1, 0, 0, nested),
+    );
+    show(
+        b"twice (S, three times X): 1 to 1",
+        circuit::amplitude(2, 1, 1, 1, nested),
+    );
+    let deep =
+        b"\x40\x01\x00\x40\x01\x00\x40\x01\x00\x40\x01\x00\x40\x01\x00\x40\x01\x00\x40\x01\x00\x40\x01\x00\x05\x00\x00\x41\x00\x00\x41\x00\x00\x41\x00\x00\x41\x00\x00\x41\x00\x00\x41\x00\x00\x41\x00\x00\x41\x00\x00";
+    show(
+        b"X in eight blocks: 0 to 1",
+        circuit::amplitude(2, 1, 0, 1, deep),
+    );
+    let most =
+        b"\x40\xFF\x00\x05\x00\x00\x40\xFE\x00\x05\x00\x00\x41\x00\x00\x41\x00\x00\x40\xFF\x00\x05\x00\x00\x41\x00\x00\x40\xFF\x00\x05\x00\x00\x41\x00\x00\x05\x00\x00";
+    show(
+        b"65,536 times X: 0 to 0",
+        circuit::amplitude(2, 1, 0, 0, most),
+    );
+}
+
+// Blocks that are refused.
+fn bad_blocks() {
+    let deep =
+        b"\x40\x01\x00\x40\x01\x00\x40\x01\x00\x40\x01\x00\x40\x01\x00\x40\x01\x00\x40\x01\x00\x40\x01\x00\x40\x01\x00\x05\x00\x00\x41\x00\x00\x41\x00\x00\x41\x00\x00\x41\x00\x00\x41\x00\x00\x41\x00\x00\x41\x00\x00\x41\x00\x00\x41\x00\x00";
+    show(b"X in nine blocks", circuit::amplitude(2, 1, 0, 1, deep));
+    let more =
+        b"\x40\xFF\x00\x05\x00\x00\x40\xFE\x00\x05\x00\x00\x41\x00\x00\x41\x00\x00\x40\xFF\x00\x05\x00\x00\x41\x00\x00\x40\xFF\x00\x05\x00\x00\x41\x00\x00\x05\x00\x00\x05\x00\x00";
+    show(b"65,537 times X", circuit::amplitude(2, 1, 0, 0, more));
+    show(
+        b"a block unclosed",
+        circuit::amplitude(2, 1, 0, 0, b"\x40\x03\x00\x01\x00\x00"),
+    );
+    show(
+        b"a block unopened",
+        circuit::amplitude(2, 1, 0, 0, b"\x41\x00\x00"),
+    );
+    show(
+        b"a block empty",
+        circuit::amplitude(2, 1, 0, 0, b"\x40\x03\x00\x41\x00\x00"),
+    );
+    show(
+        b"a block unopened, then code 9",
+        circuit::amplitude(2, 1, 0, 0, b"\x41\x00\x00\x09\x00\x00"),
+    );
+    let none = b"\x40\x00\x00\x01\x00\x00\x41\x00\x00";
+    show(b"a count of 0", circuit::amplitude(2, 1, 0, 0, none));
+    let stray = b"\x40\x03\x01\x01\x00\x00\x41\x00\x00";
+    show(
+        b"an opening with a second byte",
+        circuit::amplitude(2, 1, 0, 0, stray),
+    );
+    let counted = b"\x40\x03\x00\x01\x00\x00\x41\x01\x00";
+    show(
+        b"a closing with a count",
+        circuit::amplitude(2, 1, 0, 0, counted),
+    );
+    let early = b"\x40\x03\x00\x01\x00\x00\x41\x00\x00";
+    show(
+        b"a block in edition 1",
+        circuit::amplitude(1, 1, 0, 0, early),
+    );
+}
+
 // A circuit for each number that refuses one.
 fn refusals() {
     show(
@@ -319,6 +397,8 @@ fn rules() {
 fn main() {
     one_wire();
     editions();
+    blocks();
+    bad_blocks();
     pair();
     show(b"one bit, quarter 0, sum", one_bit(0, 0));
     show(b"one bit, quarter 1, sum", one_bit(0, 1));
