@@ -1,18 +1,24 @@
-// The number that refuses a circuit, found without running it: 11, 6, 8, then gate by gate.
+// The number that refuses a circuit, found without running it: 9 for its edition, then 11, 6, 8, then gate by gate.
 ghost use mathlib.Core.Bool.{true};
 ghost use mathlib.Core.Path.{_≡_};
-ghost use Prim.Native.Nat.{_+_, _*_, _≤_};
+ghost use Prim.Native.Nat.{ℕ, _+_, _*_, _≤_};
 ghost use lib.ListN.{length};
 ghost use Rattle.gates.specs.Read.{gateRead};
 ghost use Rattle.gates.specs.Circuit.{numberOf, gateAt, gateCount, gatesNumber, circuitNumber};
 use gates::Reading;
 
-// Gate `j` of the bytes, read on so many wires.
-fn gate_at(gates: &[u8], j: usize, width: u8) -> Reading
+// Gate `j` of the bytes, read on so many wires in a dialect, which is the edition of a circuit.
+fn gate_at(dialect: u8, gates: &[u8], j: usize, width: u8) -> Reading
     requires { ⌜ 3 * j + 3 ≤ length (now gates) ⌝ }
-    ensures { λ r. ⌜ r ≡ gateAt width (now (gates .entry)) j ⌝ }
+    ensures { λ r. ⌜ r ≡ gateAt dialect width (now (gates .entry)) j ⌝ }
 {
-    gates::read(gates[3 * j], gates[3 * j + 1], gates[3 * j + 2], width)
+    gates::read(
+        dialect,
+        gates[3 * j],
+        gates[3 * j + 1],
+        gates[3 * j + 2],
+        width,
+    )
 }
 
 // The number of a reading, 0 where it is a gate.
@@ -26,13 +32,13 @@ fn number_of(g: Reading) -> u8
 }
 
 // The number of the first gate that is refused, 0 where none is, gate by gate.
-fn first_refusal(gates: &[u8], width: u8) -> u8
-    ensures { λ r. ⌜ r ≡ gatesNumber width (now (gates .entry)) (gateCount (now (gates .entry))) ⌝ }
+fn first_refusal(dialect: u8, gates: &[u8], width: u8) -> u8
+    ensures { λ r. ⌜ r ≡ gatesNumber dialect width (now (gates .entry)) (gateCount (now (gates .entry))) ⌝ }
 {
     let count = gates.len() / 3;
     let mut j: usize = 0;
     while j < count {
-        let n = number_of(gate_at(gates, j, width));
+        let n = number_of(gate_at(dialect, gates, j, width));
         if n != 0 {
             return n;
         }
@@ -41,9 +47,9 @@ fn first_refusal(gates: &[u8], width: u8) -> u8
     0
 }
 
-// 1 where the bytes are a gate on one wire of so many.
+// 1 where the bytes are a gate on one wire of so many, in any dialect.
 fn one_fine(code: u8, first: u8, second: u8, width: u8) -> u32
-    ensures { λ r. ⌜ (r ≤ 1) × (r ≡ 1 → (code ≤ 7) × (numberOf (gateRead code first second width) ≡ 0)) ⌝ }
+    ensures { λ r. ⌜ (r ≤ 1) × (r ≡ 1 → (code ≤ 7) × ((d : ℕ) → numberOf (gateRead d code first second width) ≡ 0)) ⌝ }
 {
     if code < 1 {
         return 0;
@@ -60,9 +66,9 @@ fn one_fine(code: u8, first: u8, second: u8, width: u8) -> u32
     1
 }
 
-// 1 where the bytes are a gate on two wires of so many.
+// 1 where the bytes are a gate on two wires of so many, in any dialect.
 fn two_fine(code: u8, first: u8, second: u8, width: u8) -> u32
-    ensures { λ r. ⌜ (r ≤ 1) × (r ≡ 1 → (16 ≤ code) × (numberOf (gateRead code first second width) ≡ 0)) ⌝ }
+    ensures { λ r. ⌜ (r ≤ 1) × (r ≡ 1 → (16 ≤ code) × ((d : ℕ) → numberOf (gateRead d code first second width) ≡ 0)) ⌝ }
 {
     if code < 16 {
         return 0;
@@ -85,7 +91,7 @@ fn two_fine(code: u8, first: u8, second: u8, width: u8) -> u32
 // 0 where gate `j` of the bytes is not refused, and else 1.
 fn refused_at(gates: &[u8], j: usize, width: u8) -> u32
     requires { ⌜ 3 * j + 3 ≤ length (now gates) ⌝ }
-    ensures { λ r. ⌜ (r ≡ 0 → numberOf (gateAt width (now (gates .entry)) j) ≡ 0) ⌝ }
+    ensures { λ r. ⌜ (r ≡ 0 → (d : ℕ) → numberOf (gateAt d width (now (gates .entry)) j) ≡ 0) ⌝ }
 {
     let code = gates[3 * j];
     let first = gates[3 * j + 1];
@@ -96,7 +102,7 @@ fn refused_at(gates: &[u8], j: usize, width: u8) -> u32
 
 // Whether no gate is refused, without a branch for each gate.
 fn all_fine(gates: &[u8], width: u8) -> bool
-    ensures { λ r. ⌜ (r ≡ true → gatesNumber width (now (gates .entry)) (gateCount (now (gates .entry))) ≡ 0) ⌝ }
+    ensures { λ r. ⌜ (r ≡ true → (d : ℕ) → gatesNumber d width (now (gates .entry)) (gateCount (now (gates .entry))) ≡ 0) ⌝ }
 {
     let count = gates.len() / 3;
     let mut bad: u32 = 0;
@@ -109,19 +115,25 @@ fn all_fine(gates: &[u8], width: u8) -> bool
 }
 
 // The number of the first gate that is refused, 0 where none is.
-fn gates_number(gates: &[u8], width: u8) -> u8
-    ensures { λ r. ⌜ r ≡ gatesNumber width (now (gates .entry)) (gateCount (now (gates .entry))) ⌝ }
+fn gates_number(dialect: u8, gates: &[u8], width: u8) -> u8
+    ensures { λ r. ⌜ r ≡ gatesNumber dialect width (now (gates .entry)) (gateCount (now (gates .entry))) ⌝ }
 {
     if all_fine(gates, width) {
         return 0;
     }
-    first_refusal(gates, width)
+    first_refusal(dialect, gates, width)
 }
 
-// The number of a circuit: 11, 6, 8, gates in order.
-pub fn number(width: u8, input: u32, output: u32, gates: &[u8]) -> u8
-    ensures { λ r. ⌜ r ≡ circuitNumber width input output (now (gates .entry)) ⌝ }
+// The number of a circuit of an edition: 9, 11, 6, 8, gates in order.
+pub fn number(edition: u8, width: u8, input: u32, output: u32, gates: &[u8]) -> u8
+    ensures { λ r. ⌜ r ≡ circuitNumber edition width input output (now (gates .entry)) ⌝ }
 {
+    if edition < 1 {
+        return exact::BAD_HEADER;
+    }
+    if 2 < edition {
+        return exact::BAD_HEADER;
+    }
     if gates.len() % 3 != 0 {
         return exact::BAD_BODY;
     }
@@ -141,5 +153,5 @@ pub fn number(width: u8, input: u32, output: u32, gates: &[u8]) -> u8
     if strings <= output as u64 {
         return exact::BAD_STRING;
     }
-    gates_number(gates, width)
+    gates_number(edition, gates, width)
 }

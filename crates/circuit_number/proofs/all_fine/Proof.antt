@@ -13,14 +13,14 @@ use Rattle.circuit_number.proofs.all_fine.Statement.{statement}
 use Rattle.circuit_number.proofs.all_fine.Tie as tie
 
 abbrev Inv-loop : tie.InvT-loop
-Inv-loop gates width count bad₀ j₀ bad j = (j ≤ count) × (bad ≡ 0 → gatesNumber width gates j ≡ 0)
+Inv-loop gates width count bad₀ j₀ bad j = (j ≤ count) × (bad ≡ 0 → (d : ℕ) → gatesNumber d width gates j ≡ 0)
 
 abbrev μ-loop : tie.MeasureT-loop
 μ-loop gates width count bad₀ j₀ bad j = count - j
 
 loop-holds : tie.Need-loop-holds Inv-loop μ-loop
 unfolding gatesNumber
-loop-holds c = (omega arith, λ e. refl)
+loop-holds c = (omega arith, λ e d. refl)
 
 refused-at-requires : tie.Need-refused-at-requires Inv-loop μ-loop
 refused-at-requires c κs = search needs
@@ -36,14 +36,14 @@ loop-again c =
     let s = c .before .before .before .before in
     let l = c .before .before .loop in
     let f = c .refused-at in
-    (omega arith, λ e. let z = or-none (l .bad) (f .result) e in none-refused (s .args .width) (s .args .gates .now) (l .j) 0 (l .inv .1 (z .0)) (sym (f .ensures (z .1))) refl)
+    (omega arith, λ e d. let z = or-none (l .bad) (f .result) e in none-refused d (s .args .width) (s .args .gates .now) (l .j) 0 (l .inv .1 (z .0) d) (sym (f .ensures (z .1) d)) refl)
 
 returns : tie.Need-returns Inv-loop μ-loop
-returns c e =
+returns c e d =
     let s = c .before .before .before in
     let l = c .before .loop in
     let k : l .j ≡ length (s .args .gates .now) / 3 = omega (arith, l .inv .0) in
-    subst (λ (n : ℕ). gatesNumber (s .args .width) (s .args .gates .now) n ≡ 0) k (l .inv .1 (eqb-true _ _ e))
+    subst (λ (n : ℕ). gatesNumber d (s .args .width) (s .args .gates .now) n ≡ 0) k (l .inv .1 (eqb-true _ _ e) d)
 
 pub all-fine-spec : {M : Type 1} → statement M
 all-fine-spec =

@@ -8,7 +8,7 @@ all-fine-requires : tie.Need-all-fine-requires
 all-fine-requires c κs = search needs
 
 returns : tie.Need-returns
-returns c = sym (c .before .all-fine .ensures (c .if1 .taken))
+returns c = sym (c .before .all-fine .ensures (c .if1 .taken) _)
 
 first-refusal-requires : tie.Need-first-refusal-requires
 first-refusal-requires c κs = search needs

@@ -20,7 +20,7 @@ returns-4 : tie.Need-returns-4
 returns-4 c = search needs
 
 returns-5 : tie.Need-returns-5
-returns-5 c = let s = c .before .before .before .before in (omega arith, λ e. (omega arith, one-accepted (s .args .code) (s .args .first) (s .args .second) (s .args .width) (omega arith) (omega arith) (omega arith) (omega arith)))
+returns-5 c = let s = c .before .before .before .before in (omega arith, λ e. (omega arith, λ d. one-accepted d (s .args .code) (s .args .first) (s .args .second) (s .args .width) (omega arith) (omega arith) (omega arith) (omega arith)))
 
 pub one-fine-spec : {M : Type 1} → statement M
 one-fine-spec = tie.close (tie.spec returns returns-2 returns-3 returns-4 returns-5)

@@ -23,7 +23,7 @@ returns-5 : tie.Need-returns-5
 returns-5 c = search needs
 
 returns-6 : tie.Need-returns-6
-returns-6 c = let s = c .before .before .before .before .before in (omega arith, λ e. (omega arith, two-accepted (s .args .code) (s .args .first) (s .args .second) (s .args .width) (omega arith) (omega arith) (omega arith) (omega arith) (λ z. absurd (omega arith))))
+returns-6 c = let s = c .before .before .before .before .before in (omega arith, λ e. (omega arith, λ d. two-accepted d (s .args .code) (s .args .first) (s .args .second) (s .args .width) (omega arith) (omega arith) (omega arith) (omega arith) (λ z. absurd (omega arith))))
 
 pub two-fine-spec : {M : Type 1} → statement M
 two-fine-spec = tie.close (tie.spec returns returns-2 returns-3 returns-4 returns-5 returns-6)
