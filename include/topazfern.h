@@ -29,7 +29,7 @@ enum {
     TOPAZFERN_WIDTH = 6,         /* width of a circuit not 1..31, or a wire not below it */
     TOPAZFERN_CODE = 7,          /* unknown gate code */
     TOPAZFERN_STRING = 8,        /* a string has a bit at or above the width */
-    TOPAZFERN_HEADER = 9,        /* a book's length, letters, edition or count; a list to lay of more than 16 */
+    TOPAZFERN_HEADER = 9,        /* a book's length, letters, edition or count; an edition other than 1 or 2; a list to lay of more than 16 */
     TOPAZFERN_CONTENTS = 10,     /* a book's contents; lists to lay unequal, bad kind, or total above 60,000 */
     TOPAZFERN_BODY = 11,         /* body length wrong, more than 4,096 gates, or a field out of range */
     TOPAZFERN_NOT_NORMAL = 12,   /* a table that is not normal */
@@ -56,8 +56,9 @@ uint8_t topazfern_read(const uint8_t *book, size_t book_length, size_t j, uint8_
 uint8_t topazfern_entry(const uint8_t *body, size_t body_length, uint8_t width, uint64_t x,
                         uint8_t *zero, int32_t *power, uint8_t *phase);
 
-/* Header and contents of a book at the front of area, from three lists: kinds, widths, lengths of bodies. Refuses 9, 10, 13. */
-uint8_t topazfern_lay(uint8_t *area, size_t area_length, const uint8_t *kinds, size_t kinds_length,
+/* Header and contents of a book of an edition (1 or 2) at the front of area, from three lists: kinds, widths, lengths of bodies.
+ * Refuses 9, 10, 13. */
+uint8_t topazfern_lay(uint8_t *area, size_t area_length, uint8_t edition, const uint8_t *kinds, size_t kinds_length,
                       const uint8_t *widths, size_t widths_length, const uint16_t *lengths, size_t lengths_length, size_t *bytes);
 
 /* A table body of this width, tested, written into area from start on: the same bytes. Refuses 11, 12, 13. */

@@ -60,7 +60,7 @@ static size_t build(uint8_t *book, size_t room)
     const uint16_t lengths[] = {8 + sizeof bell, sizeof tied};
     size_t at, bytes;
 
-    if (topazfern_lay(book, room, kinds, 2, widths, 2, lengths, 2, &at))
+    if (topazfern_lay(book, room, 1, kinds, 2, widths, 2, lengths, 2, &at))
         return 0;
     memcpy(book + at, "\0\0\0\0\3\0\0\0", 8);
     memcpy(book + at + 8, bell, sizeof bell);

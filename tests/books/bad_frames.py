@@ -16,7 +16,7 @@ def moved(entry, by):
 
 def bad_headers(book):
     """Wrong letters, edition, count."""
-    for at, values in ((0, (0x50, 0, 0x4E, 0xD1)), (1, (0x4F, 0x51, 0, 0xCE)), (2, (0, 2, 3, 129, 255)), (3, (17, 18, 32, 144, 255))):
+    for at, values in ((0, (0x50, 0, 0x4E, 0xD1)), (1, (0x4F, 0x51, 0, 0xCE)), (2, (0, 3, 4, 129, 255)), (3, (17, 18, 32, 144, 255))):
         for value in values:
             yield f"byte {at} is {value}", book[:at] + bytes([value]) + book[at + 1:]
     yield "letters the other way", b"\x4e\x51" + book[2:]

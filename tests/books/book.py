@@ -1,4 +1,4 @@
-"""A book: all its faults in document 01's order, and its listing.
+"""A book: all its faults in document 01's order, and its listing; edition 2 by document 02.
 
 "Bytes 0–3: 51 4E, edition 01, count k (0..16). Then k entries of 8 bytes: kind (1 circuit, 2 table), width, length (16 bits),
 start (32 bits). Bodies follow in order without gaps, and the last ends the file."
@@ -43,7 +43,7 @@ def header_faults(book):
         yield "first letter"
     if book[1] != 0x4E:
         yield "second letter"
-    if book[2] != 1:
+    if book[2] not in gates.EDITIONS:
         yield "edition"
     if book[3] > MOST_BODIES:
         yield "count"
@@ -103,11 +103,11 @@ def faults(book):
         yield from body_faults(at, entry, data)
 
 
-def line(at, entry, data):
+def line(edition, at, entry, data):
     """"for each body: number, `C`, power, phase; or number, `T`, live, ties, power, phase. For zero: `0 C zero`, or `0 T` with
     live and `zero`." """
     if entry.kind == CIRCUIT:
-        amount = circuit.amplitude(entry.width, *gates.strings(data), gates.gates(data))
+        amount = circuit.amplitude(entry.width, *gates.strings(data), gates.gates(edition, data))
         return f"{at} C zero" if amount is None else f"{at} C {amount[0]} {amount[1]}"
     table = tables.read(entry.width, data)
     if table.zero:
@@ -120,14 +120,14 @@ def listing(book):
     fault = next(faults(book), None)
     if fault is not None:
         return f"refused {fault.number}\n"
-    lines = [line(at, entry, data) for at, (entry, data) in enumerate(bodies(book))]
+    lines = [line(book[2], at, entry, data) for at, (entry, data) in enumerate(bodies(book))]
     return "".join(text + "\n" for text in [f"book {book[3]}", *lines])
 
 
-def lay(parts):
+def lay(parts, edition=1):
     """A book of parts (kind, width, bytes), its contents right and nothing else tested."""
     start, contents = 4 + 8 * len(parts), b""
     for kind, width, data in parts:
         contents += Entry(kind, width, len(data), start).laid()
         start += len(data)
-    return bytes([0x51, 0x4E, 1, len(parts)]) + contents + b"".join(data for _, _, data in parts)
+    return bytes([0x51, 0x4E, edition, len(parts)]) + contents + b"".join(data for _, _, data in parts)

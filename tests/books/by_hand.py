@@ -23,7 +23,11 @@ FRAMES = [
     ("51 4E 01 00 00", "refused 10"),
     ("4E 51 01 00", "refused 9"),
     ("51 4E 00 00", "refused 9"),
-    ("51 4E 02 00", "refused 9"),
+    ("51 4E 02 00", "book 0"),
+    ("51 4E 02 00 00", "refused 10"),
+    ("51 4E 03 00", "refused 9"),
+    ("51 4E FF 00", "refused 9"),
+    ("51 4E 02 11", "refused 9"),
     ("51 4E 01 11", "refused 9"),  # 17 bodies, before contents too short
     ("51 4E 01 01", "refused 10"),
     ("51 4E 01 01 01 01 08 00 0C 00 00", "refused 10"),
@@ -90,6 +94,15 @@ CIRCUITS = [
     (circuit(1, "00000000 000000"), "refused 11"),
 ]
 
+# "SX 0→0 is (−1,1) in edition 1 and (−1,0) in edition 2": two bodies, from 0 to 0 and to 1
+ROTATIONS = "02 01 01 0B 00 14 00 00 00 01 01 0B 00 1F 00 00 00 00000000 00000000 070000 00000000 01000000 070000"
+EDITIONS = [
+    ("51 4E 01 " + ROTATIONS, "book 2/0 C -1 1/1 C -1 7"),
+    ("51 4E 02 " + ROTATIONS, "book 2/0 C -1 0/1 C -1 6"),
+    ("51 4E 00 " + ROTATIONS, "refused 9"),
+    ("51 4E 03 " + ROTATIONS, "refused 9"),
+]
+
 TABLES = [
     (table(0, "01 00 0000 00"), "book 1/0 T 0 zero"),
     (table(0, "00 07 D007 00"), "book 1/0 T 0 0 2000 7"),
@@ -134,5 +147,5 @@ TABLES = [
 def cases():
     """(book, listing); the listings above have / for a newline and leave out the last one."""
     yield PAPER, "book 2\n0 C -1 0\n1 C -1 1\n"
-    for text, said in FRAMES + CIRCUITS + TABLES:
+    for text, said in FRAMES + CIRCUITS + EDITIONS + TABLES:
         yield bytes.fromhex(text), said.replace("/", "\n") + "\n"

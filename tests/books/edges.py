@@ -132,4 +132,5 @@ def phases(rng):
         yield f"phase {phase}", lay([some_tables.part(some_tables.normal(rng, 4)._replace(phase=phase))])
 
 
-FAMILIES = [counts, sizes, gate_counts, circuit_widths, all_powers, all_phases, deep, table_widths, powers, phases]
+CIRCUITS = [gate_counts, circuit_widths, all_powers, all_phases, deep]
+FRAMES_AND_TABLES = [counts, sizes, table_widths, powers, phases]

@@ -14,6 +14,16 @@ PAPER = bytes.fromhex(
     "02 00 00 01 00 00")
 
 
+def in_both(family):
+    """The books of a family, each followed by the same bodies in edition 2."""
+    def made(rng):
+        for label, book in family(rng):
+            yield label, book
+            yield f"{label}, edition 2", book[:2] + b"\2" + book[3:]
+    made.__name__ = family.__name__
+    return made
+
+
 def sound_part(rng):
     make = rng.choice([some_circuits.narrow, some_circuits.narrow, some_circuits.wide, some_circuits.undone, some_tables.any_part])
     return make(rng)
@@ -30,22 +40,22 @@ def paper(rng):
 # ---- sound books
 
 def narrow(rng):
-    for _ in range(400):
+    for _ in range(250):
         yield "narrow circuits", lay([some_circuits.narrow(rng) for _ in range(rng.randint(1, 12))])
 
 
 def wide(rng):
-    for _ in range(220):
+    for _ in range(120):
         yield "wide circuits", lay([some_circuits.wide(rng) for _ in range(rng.randint(1, 4))])
 
 
 def undone(rng):
-    for _ in range(150):
+    for _ in range(80):
         yield "circuits undone", lay([some_circuits.undone(rng) for _ in range(rng.randint(1, 4))])
 
 
 def long(rng):
-    for _ in range(12):
+    for _ in range(6):
         width = rng.choice([31, 31, rng.randint(2, 31)])
         yield "a long circuit", lay([some_circuits.part(rng, width, some_circuits.gates(rng, width, rng.randint(1000, 4096)))])
 
@@ -56,7 +66,7 @@ def tables(rng):
 
 
 def mixed(rng):
-    for _ in range(100):
+    for _ in range(60):
         yield "circuits and tables", sound_book(rng)
 
 
@@ -130,13 +140,13 @@ def cuts(rng):
 def nonsense(rng):
     for _ in range(40):
         tail = rng.randbytes(rng.randint(0, 60))
-        yield "nonsense", rng.choice([tail, b"\x51\x4e\x01" + tail, b"\x51\x4e\x01\x01\x01" + tail])
+        yield "nonsense", rng.choice([tail, b"\x51\x4e\x01" + tail, b"\x51\x4e\x02\x01\x01" + tail])
 
 
-SOUND = [paper, narrow, wide, undone, long, tables, mixed]
-BAD = [codes, bad_gates, bad_circuit_bodies, bad_table_bodies, frames]
+SOUND = [*map(in_both, [paper, narrow, wide, undone, long, mixed]), tables]
+BAD = [*map(in_both, [codes, bad_gates, bad_circuit_bodies, bad_table_bodies]), frames]
 NOISE = [flips, flips_in_frame, cuts, nonsense]
-ALL = SOUND + edges.FAMILIES + BAD + order.FAMILIES + NOISE
+ALL = SOUND + [*map(in_both, edges.CIRCUITS)] + edges.FRAMES_AND_TABLES + BAD + [*map(in_both, order.FAMILIES)] + NOISE
 
 
 def one_more(rng):

@@ -10,6 +10,8 @@ TWO_WIRES = range(16, 19)
 KNOWN = [*ONE_WIRE, *TWO_WIRES]
 UNKNOWN = [code for code in range(256) if code not in KNOWN]
 MOST_GATES = 4096
+EDITIONS = (1, 2)
+ROTATION = 0x107  # what code 7 means in edition 2; no byte has this number
 
 
 def number(data, start, size):
@@ -21,9 +23,14 @@ def strings(body):
     return number(body, 0, 4), number(body, 4, 4)
 
 
-def gates(body):
-    """The gates whose three bytes are all there."""
+def written(body):
+    """The gates whose three bytes are all there, as the bytes have them."""
     return [tuple(body[at:at + 3]) for at in range(8, len(body) - 2, 3)]
+
+
+def gates(edition, body):
+    """What the gates mean: "Edition 1 books keep the old reading and edition 2 books get the new one." """
+    return [(ROTATION, *gate[1:]) if edition == 2 and gate[0] == SX else gate for gate in written(body)]
 
 
 def body(given, wanted, circuit):
@@ -67,6 +74,6 @@ def faults(width, data):
     for name, string in zip(("input", "output"), strings(data)):
         if string >> width:
             yield 8, name, None
-    for at, gate in enumerate(gates(data)):
+    for at, gate in enumerate(written(data)):
         for number_, reason in gate_faults(width, gate):
             yield number_, reason, at

@@ -53,11 +53,11 @@ class Ledger:
         self.met[f"{len(book)} bytes"] += 1
         for entry, data in books.bodies(book):
             if entry.kind == books.CIRCUIT:
-                circuit = g.gates(data)
+                circuit = g.written(data)
                 self.met[f"circuit width {entry.width}"] += 1
                 self.met[f"{len(circuit)} gates"] += 1
                 for code in {gate[0] for gate in circuit}:
-                    self.met[f"code {code}"] += 1
+                    self.met[f"code {code}, edition {book[2]}"] += 1
             else:
                 self.note_table(tables.read(entry.width, data))
 
@@ -84,16 +84,18 @@ class Ledger:
         """The exact size of what was too large by itself."""
         if first.reason == "longer than 60,000":
             self.met[f"9 by {len(book)} bytes"] += 1
+        elif first.reason == "edition":
+            self.met[f"9 by edition {book[2]}"] += 1
         elif first.reason == "count":
             self.met[f"9 by {book[3]} bodies"] += 1
         elif first.stage == "body":
             entry, data = books.bodies(book)[first.at]
             if first.reason == "too many gates":
-                self.met[f"11 by {len(g.gates(data))} gates"] += 1
+                self.met[f"11 by {len(g.written(data))} gates"] += 1
             elif first.reason == "power":
                 self.met[f"11 by power {tables.read(entry.width, data).power}"] += 1
             elif first.reason == "unknown code":
-                self.met[f"7 by code {g.gates(data)[first.gate][0]}"] += 1
+                self.met[f"7 by code {g.written(data)[first.gate][0]}, edition {book[2]}"] += 1
 
     # ---- the close
 
@@ -125,7 +127,7 @@ def answered_edges():
     yield from (f"{count} bodies" for count in (0, 1, 15, 16))
     yield from ("60000 bytes", "59999 bytes", "0 gates", "4095 gates", "4096 gates")
     yield from (f"circuit width {width}" for width in range(1, 32))
-    yield from (f"code {code}" for code in g.KNOWN)
+    yield from (f"code {code}, edition {edition}" for edition in g.EDITIONS for code in g.KNOWN)
     yield from (f"amplitude phase {phase}" for phase in range(8))
     yield from (f"amplitude power {power}" for power in range(-31, 1))
     yield from (f"table width {width}" for width in range(65))
@@ -138,7 +140,8 @@ def refused_edges():
     yield from ("9 by 60001 bytes", "9 by 17 bodies", "11 by 4097 gates", "11 by power 2001", "11 by power -2001")
     yield from (f"6 by circuit width {width}" for width in (0, *range(32, 256)))
     yield from (f"11 by table width {width}" for width in (65, 66, 128, 255))
-    yield from (f"7 by code {code}" for code in g.UNKNOWN)
+    yield from (f"7 by code {code}, edition {edition}" for edition in g.EDITIONS for code in g.UNKNOWN)
+    yield from (f"9 by edition {edition}" for edition in (0, 3, 255))
 
 
 def lone_faults():

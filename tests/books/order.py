@@ -71,7 +71,7 @@ def frame_after_body(rng):
     for number in OF_BODIES:
         book = among(rng, [bad_part(rng, number), edges.small_part(rng)], 1)
         yield f"{number}, but a byte too many", book + b"\0"
-        yield f"{number}, but edition 2", book[:2] + b"\2" + book[3:]
+        yield f"{number}, but edition 3", book[:2] + b"\3" + book[3:]
         spoilt = [*bad_frames.tails(book), *bad_frames.bad_kinds(book), *bad_frames.bad_starts(book), *bad_frames.gaps(book)]
         for label, bad in rng.sample(spoilt, 5):
             yield f"{number}, but {label}", bad

@@ -76,6 +76,25 @@ def root_of_x(rng):
     return 4
 
 
+def rotation(rng):
+    """An edition 1 amplitude is "the other reading's times ω for each code 7", by both methods at every output."""
+    tried = 0
+    for _ in range(200):
+        width = rng.randint(1, 4)
+        circuit = some_circuits.gates(rng, width, rng.randint(1, 30), "many roots")
+        other = [(g.ROTATION, *gate[1:]) if gate[0] == g.SX else gate for gate in circuit]
+        sevens = sum(gate[0] == g.SX for gate in circuit)
+        given = rng.getrandbits(width)
+        (state, below), kept = vector.run(given, other), chform.after(width, given, other)
+        first = chform.after(width, given, circuit)
+        for wanted in range(1 << width):
+            plain = exact.amount(state.get(wanted, exact.ZERO), below)
+            turned = None if plain is None else (plain[0], (plain[1] + sevens) % 8)
+            demand(plain == kept.amplitude(wanted) and turned == first.amplitude(wanted), width, given, wanted, circuit)
+            tried += 1
+    return tried
+
+
 def hand_made_books(rng):
     tried = 0
     for data, said in by_hand.cases():
@@ -130,7 +149,7 @@ def normal_tables(rng):
     return 300
 
 
-TESTS = [values, narrow_circuits, wide_circuits, root_of_x, hand_made_books, normal_forms, normal_tables]
+TESTS = [values, narrow_circuits, wide_circuits, root_of_x, rotation, hand_made_books, normal_forms, normal_tables]
 
 
 def run(seed):

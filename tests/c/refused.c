@@ -53,9 +53,13 @@ static void areas(void)
     bytes = 5;
     expect("not normal", topazfern_write(empty_tie, sizeof empty_tie, 1, area, 40, 0, &bytes) == 12 && bytes == 0);
     bytes = 5;
-    expect("a bad kind", topazfern_lay(area, 40, kinds, 2, kinds, 2, lengths, 2, &bytes) == 10 && bytes == 0);
+    expect("a bad kind", topazfern_lay(area, 40, 1, kinds, 2, kinds, 2, lengths, 2, &bytes) == 10 && bytes == 0);
     bytes = 5;
-    expect("no room for contents", topazfern_lay(area, 11, kinds, 1, kinds, 1, lengths, 1, &bytes) == 13 && bytes == 0);
+    expect("no room for contents", topazfern_lay(area, 11, 2, kinds, 1, kinds, 1, lengths, 1, &bytes) == 13 && bytes == 0);
+    bytes = 5;
+    expect("edition 0", topazfern_lay(area, 11, 0, kinds, 2, kinds, 1, lengths, 1, &bytes) == 9 && bytes == 0);
+    bytes = 5;
+    expect("edition 3", topazfern_lay(area, 40, 3, kinds, 1, kinds, 1, lengths, 1, &bytes) == 9 && bytes == 0);
     expect("areas unchanged", memcmp(area, before, sizeof area) == 0);
     expect("written", topazfern_write(sound, sizeof sound, 1, area, 21, 7, &bytes) == 0 && bytes == 14);
     expect("the same bytes", memcmp(area + 7, sound, 14) == 0 && memcmp(area, before, 7) == 0 && memcmp(area + 21, before, 19) == 0);

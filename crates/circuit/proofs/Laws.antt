@@ -1,3 +1,4 @@
 pub mod Amplitude
 pub mod Begin
 pub mod Only
+pub mod Editions

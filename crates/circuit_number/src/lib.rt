@@ -128,10 +128,7 @@ fn gates_number(dialect: u8, gates: &[u8], width: u8) -> u8
 pub fn number(edition: u8, width: u8, input: u32, output: u32, gates: &[u8]) -> u8
     ensures { λ r. ⌜ r ≡ circuitNumber edition width input output (now (gates .entry)) ⌝ }
 {
-    if edition < 1 {
-        return exact::BAD_HEADER;
-    }
-    if 2 < edition {
+    if !editions::good_edition(edition) {
         return exact::BAD_HEADER;
     }
     if gates.len() % 3 != 0 {

@@ -6,8 +6,13 @@ use lib.Dec.{eqb, ltb}
 use lib.ListN.{length}
 use Rattle.exact.specs.Refusal.{badHeader, badContents, first, _gives_}
 use Rattle.exact.specs.Sum.{total}
+use Rattle.editions.specs.Edition.{goodEdition}
 use Rattle.fields.specs.Bytes.{byteAt, number}
 pub use Rattle.contents.specs.declared.Entry.{Entry}
+
+-- "Bytes 0–3: 51 4E, edition 01, count k (0..16)", byte 2; "9 for an edition other than 1 or 2"
+unfoldable pub editionOf : List ℕ → ℕ
+editionOf bs = byteAt bs 2
 
 -- "count k (0..16)", byte 3
 unfoldable pub countOf : List ℕ → ℕ
@@ -46,7 +51,7 @@ headerFault bs =
     || ltb 60000 (length bs)
     || not (eqb (byteAt bs 0) 0x51)
     || not (eqb (byteAt bs 1) 0x4E)
-    || not (eqb (byteAt bs 2) 1)
+    || not (goodEdition (editionOf bs))
     || ltb 16 (countOf bs)
 
 -- "kind (1 circuit, 2 table)"

@@ -1,6 +1,6 @@
 // A book's header and contents: tested, and read entry by entry.
 ghost use mathlib.Core.Path.{_≡_};
-ghost use Rattle.contents.specs.Contents.{countOf, entryOf, headerFault, goodKind, faultAt, contentsNumber};
+ghost use Rattle.contents.specs.Contents.{editionOf, countOf, entryOf, headerFault, goodKind, faultAt, contentsNumber};
 
 // What the contents state of a body.
 pub struct Entry {
@@ -8,6 +8,13 @@ pub struct Entry {
     pub width: u8,
     pub start: usize,
     pub length: usize,
+}
+
+// Which edition the header states.
+pub fn edition(bs: &[u8]) -> u8
+    ensures { λ r. ⌜ r ≡ editionOf (now (bs .entry)) ⌝ }
+{
+    fields::read_u8(bs, 2)
 }
 
 // How many bodies the header states.
@@ -61,7 +68,7 @@ fn header_fault(bs: &[u8]) -> bool
     if bs[1] != 0x4E {
         return true;
     }
-    if bs[2] != 1 {
+    if !editions::good_edition(edition(bs)) {
         return true;
     }
     count(bs) > exact::MOST_BODIES

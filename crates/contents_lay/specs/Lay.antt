@@ -7,13 +7,14 @@ use lib.Dec.{eqb, ltb}
 use lib.ListN.{length, getD}
 use Rattle.exact.specs.Refusal.{badHeader, badContents, areaShort, first, _gives_}
 use Rattle.exact.specs.Sum.{total}
+use Rattle.editions.specs.Edition.{goodEdition}
 use Rattle.fields.specs.Bytes.{le, front}
 use Rattle.contents.specs.Contents.{anyBelow, goodKind}
 pub use Rattle.contents_lay.specs.declared.Written.{Written}
 
--- "Bytes 0–3: 51 4E, edition 01, count k"
-abbrev pub headerBytes : ℕ → List ℕ
-headerBytes k = 0x51 ∷ 0x4E ∷ 1 ∷ k ∷ []
+-- "Bytes 0–3: 51 4E, edition 01, count k"; "The contents writer and each direct call on a circuit take the edition"
+abbrev pub headerBytes : ℕ → ℕ → List ℕ
+headerBytes ed k = 0x51 ∷ 0x4E ∷ ed ∷ k ∷ []
 
 -- "k entries of 8 bytes: kind (1 circuit, 2 table), width, length (16 bits), start (32 bits)"
 unfoldable pub entryBytes : ℕ → ℕ → ℕ → ℕ → List ℕ
@@ -29,8 +30,8 @@ entriesBytes ks ws ls zero = []
 entriesBytes ks ws ls (suc i) = entriesBytes ks ws ls i ++ entryBytes (getD ks i 0) (getD ws i 0) (getD ls i 0) (laidStart ls i)
 
 -- "header and contents .. from three lists (kinds, widths, lengths)"
-unfoldable pub laidBytes : List ℕ → List ℕ → List ℕ → List ℕ
-laidBytes ks ws ls = headerBytes (length ks) ++ entriesBytes ks ws ls (length ks)
+unfoldable pub laidBytes : ℕ → List ℕ → List ℕ → List ℕ → List ℕ
+laidBytes ed ks ws ls = headerBytes ed (length ks) ++ entriesBytes ks ws ls (length ks)
 
 -- 9: "a list to lay of more than 16"
 unfoldable pub tooMany : List ℕ → List ℕ → List ℕ → Bool
@@ -45,10 +46,13 @@ unfoldable pub badLists : List ℕ → List ℕ → List ℕ → Bool
 badLists ks ws ls =
     not (eqb (length ws) (length ks)) || not (eqb (length ls) (length ks)) || anyBelow (length ks) (badKind ks) || ltb 60000 (laidStart ls (length ls))
 
--- "Writers: 12, 9, 10, 13", in an area of so many bytes; 13: "lent area too short for what is to be written"
-unfoldable pub layNumber : ℕ → List ℕ → List ℕ → List ℕ → ℕ
-layNumber room ks ws ls =
-    first ((tooMany ks ws ls gives badHeader) ∷ (badLists ks ws ls gives badContents) ∷ (ltb room (4 + 8 * length ks) gives areaShort) ∷ [])
+-- "Writers: 12, 9, 10, 13", in an area of so many bytes; "9 for an edition other than 1 or 2"; 13: "lent area too short for what is to be written"
+unfoldable pub layNumber : ℕ → ℕ → List ℕ → List ℕ → List ℕ → ℕ
+layNumber room ed ks ws ls =
+    first
+    ((not (goodEdition ed) gives badHeader)
+    ∷ (tooMany ks ws ls gives badHeader) ∷ (badLists ks ws ls gives badContents)
+    ∷ (ltb room (4 + 8 * length ks) gives areaShort) ∷ [])
 
 -- one thing where a number refuses nothing, another where it refuses
 abbrev pub unless : {A : Type 0} → ℕ → A → A → A
@@ -56,15 +60,15 @@ unless zero a b = a
 unless (suc n) a b = b
 
 -- "Each answers the bytes written", "A refusal answers its number only, .. a writer 0 bytes"
-unfoldable pub laidAnswer : List ℕ → List ℕ → List ℕ → List ℕ → Written
-laidAnswer xs ks ws ls =
-    record { refusal = layNumber (length xs) ks ws ls; bytes = unless (layNumber (length xs) ks ws ls) (4 + 8 * length ks) 0 }
+unfoldable pub laidAnswer : List ℕ → ℕ → List ℕ → List ℕ → List ℕ → Written
+laidAnswer xs ed ks ws ls =
+    record { refusal = layNumber (length xs) ed ks ws ls; bytes = unless (layNumber (length xs) ed ks ws ls) (4 + 8 * length ks) 0 }
 
 -- "at the front of a lent area": "all other bytes stay"
-unfoldable pub laidArea : List ℕ → List ℕ → List ℕ → List ℕ → List ℕ
-laidArea xs ks ws ls = unless (layNumber (length xs) ks ws ls) (front xs (laidBytes ks ws ls)) xs
+unfoldable pub laidArea : List ℕ → ℕ → List ℕ → List ℕ → List ℕ → List ℕ
+laidArea xs ed ks ws ls = unless (layNumber (length xs) ed ks ws ls) (front xs (laidBytes ed ks ws ls)) xs
 
 -- the writer's answer, and the area from xs to ys
-pub record ContentsLaid (xs ks ws ls : List ℕ) (r : Written) (ys : List ℕ) : Type 0 where
-  pub answer : r ≡ laidAnswer xs ks ws ls
-  pub area : ys ≡ laidArea xs ks ws ls
+pub record ContentsLaid (xs : List ℕ) (ed : ℕ) (ks ws ls : List ℕ) (r : Written) (ys : List ℕ) : Type 0 where
+  pub answer : r ≡ laidAnswer xs ed ks ws ls
+  pub area : ys ≡ laidArea xs ed ks ws ls

@@ -42,9 +42,12 @@ fn book_size(lengths: &[u16]) -> usize
 }
 
 // The number that refuses to lay these lists in an area of so many bytes, 0 where they are laid.
-fn lay_number(room: usize, kinds: &[u8], widths: &[u8], lengths: &[u16]) -> u8
-    ensures { λ r. ⌜ r ≡ layNumber room (now (kinds .entry)) (now (widths .entry)) (now (lengths .entry)) ⌝ }
+fn lay_number(room: usize, edition: u8, kinds: &[u8], widths: &[u8], lengths: &[u16]) -> u8
+    ensures { λ r. ⌜ r ≡ layNumber room edition (now (kinds .entry)) (now (widths .entry)) (now (lengths .entry)) ⌝ }
 {
+    if !editions::good_edition(edition) {
+        return exact::BAD_HEADER;
+    }
     let n = kinds.len();
     if n > exact::MOST_BODIES {
         return exact::BAD_HEADER;
@@ -74,13 +77,13 @@ fn lay_number(room: usize, kinds: &[u8], widths: &[u8], lengths: &[u16]) -> u8
 }
 
 // The four bytes of the header at the front of the part.
-fn write_header(part: &mut [u8], count: u8)
+fn write_header(part: &mut [u8], edition: u8, count: u8)
     requires { ⌜ 4 ≤ length (now part) ⌝ }
-    ensures { λ _. ⌜ now (part .exit) ≡ front (now (part .entry)) (headerBytes count) ⌝ }
+    ensures { λ _. ⌜ now (part .exit) ≡ front (now (part .entry)) (headerBytes edition count) ⌝ }
 {
     part[0] = 0x51;
     part[1] = 0x4E;
-    part[2] = 1;
+    part[2] = edition;
     part[3] = count;
 }
 
@@ -111,11 +114,11 @@ fn write_entries(part: &mut [u8], kinds: &[u8], widths: &[u8], lengths: &[u16])
     }
 }
 
-// Header and contents at the front of a lent area, from three lists; where refused, nothing is written.
-pub fn lay(area: &mut [u8], kinds: &[u8], widths: &[u8], lengths: &[u16]) -> Written
-    ensures { λ r. ⌜ ContentsLaid (now (area .entry)) (now (kinds .entry)) (now (widths .entry)) (now (lengths .entry)) r (now (area .exit)) ⌝ }
+// Header and contents of a book of an edition at the front of a lent area, from three lists; where refused, nothing is written.
+pub fn lay(area: &mut [u8], edition: u8, kinds: &[u8], widths: &[u8], lengths: &[u16]) -> Written
+    ensures { λ r. ⌜ ContentsLaid (now (area .entry)) edition (now (kinds .entry)) (now (widths .entry)) (now (lengths .entry)) r (now (area .exit)) ⌝ }
 {
-    let refusal = lay_number(area.len(), kinds, widths, lengths);
+    let refusal = lay_number(area.len(), edition, kinds, widths, lengths);
     if refusal != 0 {
         return Written {
             refusal: refusal,
@@ -123,7 +126,7 @@ pub fn lay(area: &mut [u8], kinds: &[u8], widths: &[u8], lengths: &[u16]) -> Wri
         };
     }
     let n = kinds.len();
-    write_header(area, n as u8);
+    write_header(area, edition, n as u8);
     write_entries(&mut area[4..], kinds, widths, lengths);
     Written {
         refusal: 0,

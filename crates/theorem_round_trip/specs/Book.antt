@@ -1,4 +1,4 @@
--- A book put together: header and contents laid from three lists, and the bodies behind them.
+-- A book put together: header and contents laid from an edition and three lists, and the bodies behind them.
 use mathlib.Core.List.{List, _++_}
 use mathlib.Core.Path.{_≡_}
 use Prim.Native.Nat.{ℕ, suc, _<_}
@@ -6,14 +6,14 @@ use lib.ListN.{length, getD}
 use Rattle.exact.specs.Refusal.{accepted}
 use Rattle.fields.specs.Bytes.{over}
 use Rattle.contents_lay.specs.declared.Written.{Written}
-use Rattle.contents.specs.Contents.{countOf, kindOf, widthOf, lengthOf, contentsNumber}
+use Rattle.contents.specs.Contents.{editionOf, countOf, kindOf, widthOf, lengthOf, contentsNumber}
 use Rattle.contents_lay.specs.Lay.{laidStart, laidBytes, ContentsLaid}
 use Rattle.body_fields.specs.Fields.{joined}
 use Rattle.book.specs.Book.{bytesOf, circuitBodyNumber, TableNumber, BookNumber}
 
 -- "Contents first, then bodies", "in order without gaps"
-unfoldable pub laidBook : List ℕ → List ℕ → List ℕ → (ℕ → List ℕ) → List ℕ
-laidBook ks ws ls bodies = laidBytes ks ws ls ++ joined (length ks) bodies
+unfoldable pub laidBook : ℕ → List ℕ → List ℕ → List ℕ → (ℕ → List ℕ) → List ℕ
+laidBook ed ks ws ls bodies = laidBytes ed ks ws ls ++ joined (length ks) bodies
 
 -- body j is as long as the lists say, and on its own it is not refused. "kind (1 circuit, 2 table)"
 pub record Fits (ks ws ls : List ℕ) (j : ℕ) (body : List ℕ) : Type 0 where
@@ -21,8 +21,9 @@ pub record Fits (ks ws ls : List ℕ) (j : ℕ) (body : List ℕ) : Type 0 where
   pub circuit : getD ks j 0 ≡ 1 → circuitBodyNumber (getD ws j 0) body ≡ accepted
   pub table : getD ks j 0 ≡ 2 → TableNumber (getD ws j 0) body accepted
 
--- bs is a book that is not refused, of these lists and these bodies
-pub record Holds (ks ws ls : List ℕ) (bodies : ℕ → List ℕ) (bs : List ℕ) : Type 0 where
+-- bs is a book that is not refused, of this edition, these lists and these bodies
+pub record Holds (ed : ℕ) (ks ws ls : List ℕ) (bodies : ℕ → List ℕ) (bs : List ℕ) : Type 0 where
+  pub edition : editionOf bs ≡ ed
   pub contents : contentsNumber bs ≡ accepted
   pub number : BookNumber bs accepted
   pub count : countOf bs ≡ length ks
@@ -32,7 +33,7 @@ pub record Holds (ks ws ls : List ℕ) (bodies : ℕ → List ℕ) (bs : List �
   pub body : (j : ℕ) → j < length ks → bytesOf bs j ≡ bodies j
 
 -- an area xs in which header and contents were laid and then each body put in its place: areas n is what it is with n bodies put
-pub record PutTogether (xs ks ws ls : List ℕ) (bodies areas : ℕ → List ℕ) (r : Written) : Type 0 where
-  pub laid : ContentsLaid xs ks ws ls r (areas 0)
+pub record PutTogether (xs : List ℕ) (ed : ℕ) (ks ws ls : List ℕ) (bodies areas : ℕ → List ℕ) (r : Written) : Type 0 where
+  pub laid : ContentsLaid xs ed ks ws ls r (areas 0)
   pub unrefused : r .refusal ≡ accepted
   pub put : (j : ℕ) → j < length ks → areas (suc j) ≡ over (areas j) (laidStart ls j) (bodies j)

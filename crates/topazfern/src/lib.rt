@@ -123,18 +123,19 @@ pub extern "C" fn topazfern_entry(
     answer(a, zero, power, phase)
 }
 
-// Header and contents at the front of an area, from three lists.
+// Header and contents of a book of an edition at the front of an area, from three lists.
 #[no_mangle]
 pub extern "C" fn topazfern_lay(
     area: &mut [u8],
+    edition: u8,
     kinds: &[u8],
     widths: &[u8],
     lengths: &[u16],
     bytes: &mut usize,
 ) -> u8
-    ensures { λ n. ⌜ ContentsLaid (now (area .entry)) (now (kinds .entry)) (now (widths .entry)) (now (lengths .entry)) (record { refusal = n; bytes = now (bytes .exit) }) (now (area .exit)) ⌝ }
+    ensures { λ n. ⌜ ContentsLaid (now (area .entry)) edition (now (kinds .entry)) (now (widths .entry)) (now (lengths .entry)) (record { refusal = n; bytes = now (bytes .exit) }) (now (area .exit)) ⌝ }
 {
-    let w = contents_lay::lay(area, kinds, widths, lengths);
+    let w = contents_lay::lay(area, edition, kinds, widths, lengths);
     let n = w.bytes;
     *bytes = n;
     w.refusal

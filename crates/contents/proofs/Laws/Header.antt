@@ -6,8 +6,9 @@ use Prim.Native.Nat.{ℕ, _≤_, _<_}
 use lib.Dec.{eqb, ltb}
 use lib.ListN.{length}
 use borrow.Author.Tests.{lt-ltb, le-ltb, eq-eqb, ne-eqb, ltb-false}
+use Rattle.editions.specs.Edition.{goodEdition}
 use Rattle.fields.specs.Bytes.{byteAt}
-use Rattle.contents.specs.Contents.{countOf, headerFault}
+use Rattle.contents.specs.Contents.{editionOf, countOf, headerFault}
 use Rattle.contents.proofs.Laws.Some.{or-no-left, or-no-right}
 
 module _ (bs : List ℕ) where
@@ -31,14 +32,14 @@ module _ (bs : List ℕ) where
         header-second h = rw (le-ltb (length bs) 4 a, le-ltb 60000 (length bs) b, eq-eqb (byteAt bs 0) 0x51 c, ne-eqb (byteAt bs 1) 0x4E h)
 
         module _ (d : byteAt bs 1 ≡ 0x4E) where
-          pub header-edition : (byteAt bs 2 ≡ 1 → ⊥) → true ≡ headerFault bs
+          pub header-edition : goodEdition (editionOf bs) ≡ false → true ≡ headerFault bs
           unfolding headerFault
-          header-edition h = rw (le-ltb (length bs) 4 a, le-ltb 60000 (length bs) b, eq-eqb (byteAt bs 0) 0x51 c, eq-eqb (byteAt bs 1) 0x4E d, ne-eqb (byteAt bs 2) 1 h)
+          header-edition h = rw (le-ltb (length bs) 4 a, le-ltb 60000 (length bs) b, eq-eqb (byteAt bs 0) 0x51 c, eq-eqb (byteAt bs 1) 0x4E d, h)
 
-          module _ (e : byteAt bs 2 ≡ 1) where
+          module _ (e : goodEdition (editionOf bs) ≡ true) where
             pub header-count : ltb 16 (byteAt bs 3) ≡ headerFault bs
             unfolding headerFault countOf
-            header-count = rw (le-ltb (length bs) 4 a, le-ltb 60000 (length bs) b, eq-eqb (byteAt bs 0) 0x51 c, eq-eqb (byteAt bs 1) 0x4E d, eq-eqb (byteAt bs 2) 1 e)
+            header-count = rw (le-ltb (length bs) 4 a, le-ltb 60000 (length bs) b, eq-eqb (byteAt bs 0) 0x51 c, eq-eqb (byteAt bs 1) 0x4E d, e)
 
 -- what a header that is not refused says
 pub header-small : (bs : List ℕ) → headerFault bs ≡ false → (4 ≤ length bs) × (length bs ≤ 60000) × (countOf bs ≤ 16)
@@ -48,7 +49,7 @@ header-small bs h =
     let long = ltb 60000 (length bs) in
     let one = not (eqb (byteAt bs 0) 0x51) in
     let two = not (eqb (byteAt bs 1) 0x4E) in
-    let edition = not (eqb (byteAt bs 2) 1) in
+    let edition = not (goodEdition (editionOf bs)) in
     let count = ltb 16 (countOf bs) in
     let most = or-no-left (short || long || one || two || edition) count h in
     let sizes = or-no-left (short || long) one (or-no-left (short || long || one) two (or-no-left (short || long || one || two) edition most)) in (

@@ -35,47 +35,47 @@ pub entries-next : (ks ws ls : List ℕ) (i : ℕ)
 unfolding entriesBytes
 entries-next ks ws ls i = ap (entriesBytes ks ws ls) (sym (add-one i))
 
-pub length-laid : (ks ws ls : List ℕ) → length (laidBytes ks ws ls) ≡ 4 + 8 * length ks
+pub length-laid : (ed : ℕ) (ks ws ls : List ℕ) → length (laidBytes ed ks ws ls) ≡ 4 + 8 * length ks
 unfolding laidBytes
-length-laid ks ws ls = omega (arith, length-entries ks ws ls (length ks))
+length-laid ed ks ws ls = omega (arith, length-entries ks ws ls (length ks))
 
 -- ---- answer and area
-module _ (xs ks ws ls : List ℕ) where
-  pub refused : (n : ℕ) → n ≡ layNumber (length xs) ks ws ls → (n ≡ 0 → ⊥) → ContentsLaid xs ks ws ls (record { refusal = n; bytes = 0 }) xs
+module _ (xs : List ℕ) (ed : ℕ) (ks ws ls : List ℕ) where
+  pub refused : (n : ℕ) → n ≡ layNumber (length xs) ed ks ws ls → (n ≡ 0 → ⊥) → ContentsLaid xs ed ks ws ls (record { refusal = n; bytes = 0 }) xs
   unfolding laidAnswer laidArea
   refused zero e h = absurd (h refl)
   refused (suc n) e h = record {
     answer = λ i. record { refusal = e i; bytes = unless (e i) (4 + 8 * length ks) 0 };
-    area = λ i. unless (e i) (front xs (laidBytes ks ws ls)) xs;
+    area = λ i. unless (e i) (front xs (laidBytes ed ks ws ls)) xs;
   }
 
-  pub laid : (ys : List ℕ) (n : ℕ) → n ≡ layNumber (length xs) ks ws ls → n ≡ 0 → ys ≡ front xs (laidBytes ks ws ls) → ContentsLaid xs ks ws ls (record { refusal = 0; bytes = 4 + 8 * length ks }) ys
+  pub laid : (ys : List ℕ) (n : ℕ) → n ≡ layNumber (length xs) ed ks ws ls → n ≡ 0 → ys ≡ front xs (laidBytes ed ks ws ls) → ContentsLaid xs ed ks ws ls (record { refusal = 0; bytes = 4 + 8 * length ks }) ys
   unfolding laidAnswer laidArea
   laid ys n is z w =
       let e = sym z ∙ is in record {
         answer = λ i. record { refusal = e i; bytes = unless (e i) (4 + 8 * length ks) 0 };
-        area = w ∙ (λ i. unless (e i) (front xs (laidBytes ks ws ls)) xs);
+        area = w ∙ (λ i. unless (e i) (front xs (laidBytes ed ks ws ls)) xs);
       }
 
   -- where nothing is refused, the area holds the bytes and then what it held
-  pub laid-area : layNumber (length xs) ks ws ls ≡ 0 → laidArea xs ks ws ls ≡ laidBytes ks ws ls ++ drop (4 + 8 * length ks) xs
+  pub laid-area : layNumber (length xs) ed ks ws ls ≡ 0 → laidArea xs ed ks ws ls ≡ laidBytes ed ks ws ls ++ drop (4 + 8 * length ks) xs
   unfolding laidArea front
   laid-area z =
-      (λ i. unless (z i) (front xs (laidBytes ks ws ls)) xs) ∙ ap (λ (n : ℕ). laidBytes ks ws ls ++ drop n xs) (length-laid ks ws ls)
+      (λ i. unless (z i) (front xs (laidBytes ed ks ws ls)) xs) ∙ ap (λ (n : ℕ). laidBytes ed ks ws ls ++ drop n xs) (length-laid ed ks ws ls)
 
   -- "all other bytes stay": every byte behind what is laid, and the length
-  pub laid-stays : (i : ℕ) → 4 + 8 * length ks ≤ i → getD (laidArea xs ks ws ls) i 0 ≡ getD xs i 0
+  pub laid-stays : (i : ℕ) → 4 + 8 * length ks ≤ i → getD (laidArea xs ed ks ws ls) i 0 ≡ getD xs i 0
   unfolding laidArea
-  laid-stays i h = go (layNumber (length xs) ks ws ls)
+  laid-stays i h = go (layNumber (length xs) ed ks ws ls)
     where
-      go : (n : ℕ) → getD (unless n (front xs (laidBytes ks ws ls)) xs) i 0 ≡ getD xs i 0
-      go zero = front-out xs (laidBytes ks ws ls) i (omega (arith, length-laid ks ws ls))
+      go : (n : ℕ) → getD (unless n (front xs (laidBytes ed ks ws ls)) xs) i 0 ≡ getD xs i 0
+      go zero = front-out xs (laidBytes ed ks ws ls) i (omega (arith, length-laid ed ks ws ls))
       go (suc n) = refl
 
-  pub laid-long : length (laidArea xs ks ws ls) ≡ length xs
+  pub laid-long : length (laidArea xs ed ks ws ls) ≡ length xs
   unfolding laidArea
-  laid-long = go (layNumber (length xs) ks ws ls) refl
+  laid-long = go (layNumber (length xs) ed ks ws ls) refl
     where
-      go : (n : ℕ) → n ≡ layNumber (length xs) ks ws ls → length (unless n (front xs (laidBytes ks ws ls)) xs) ≡ length xs
-      go zero e = length-front xs (laidBytes ks ws ls) (omega (arith, length-laid ks ws ls, lay-lists (length xs) ks ws ls 0 e refl .area))
+      go : (n : ℕ) → n ≡ layNumber (length xs) ed ks ws ls → length (unless n (front xs (laidBytes ed ks ws ls)) xs) ≡ length xs
+      go zero e = length-front xs (laidBytes ed ks ws ls) (omega (arith, length-laid ed ks ws ls, lay-lists (length xs) ed ks ws ls 0 e refl .area))
       go (suc n) e = refl

@@ -7,6 +7,7 @@ use native.Mathlib.Omega.{arith}
 use lib.Dec.{eqb, ltb}
 use lib.ListN.{length}
 use borrow.Author.Tests.{lt-ltb, le-ltb, eq-eqb, ne-eqb, eqb-true, ltb-true, ltb-false, not-false}
+use Rattle.editions.specs.Edition.{goodEdition}
 use Rattle.contents.specs.Contents.{anyBelow}
 use Rattle.contents_lay.specs.Lay.{laidStart, tooMany, badKind, badLists, layNumber}
 use Rattle.contents.proofs.Laws.Some.{or-no-left, or-no-right}
@@ -50,25 +51,30 @@ module _ (ks ws ls : List ℕ) where
       unfolding badLists
       bad-none s h = rw (eq-eqb (length ws) (length ks) a, eq-eqb (length ls) (length ks) b, s, le-ltb 60000 (laidStart ls (length ls)) h)
 
-  module _ (room : ℕ) where
-    pub lay-nine : tooMany ks ws ls ≡ true → 9 ≡ layNumber room ks ws ls
+  module _ (room ed : ℕ) where
+    pub lay-edition : goodEdition ed ≡ false → 9 ≡ layNumber room ed ks ws ls
     unfolding layNumber
-    lay-nine h = rw h
+    lay-edition h = rw h
 
-    pub lay-ten : tooMany ks ws ls ≡ false → badLists ks ws ls ≡ true → 10 ≡ layNumber room ks ws ls
+    pub lay-nine : goodEdition ed ≡ true → tooMany ks ws ls ≡ true → 9 ≡ layNumber room ed ks ws ls
     unfolding layNumber
-    lay-ten a h = rw (a, h)
+    lay-nine g h = rw (g, h)
 
-    pub lay-thirteen : tooMany ks ws ls ≡ false → badLists ks ws ls ≡ false → room < 4 + 8 * length ks → 13 ≡ layNumber room ks ws ls
+    pub lay-ten : goodEdition ed ≡ true → tooMany ks ws ls ≡ false → badLists ks ws ls ≡ true → 10 ≡ layNumber room ed ks ws ls
     unfolding layNumber
-    lay-thirteen a b h = rw (a, b, lt-ltb room (4 + 8 * length ks) h)
+    lay-ten g a h = rw (g, a, h)
 
-    pub lay-zero : tooMany ks ws ls ≡ false → badLists ks ws ls ≡ false → 4 + 8 * length ks ≤ room → 0 ≡ layNumber room ks ws ls
+    pub lay-thirteen : goodEdition ed ≡ true → tooMany ks ws ls ≡ false → badLists ks ws ls ≡ false → room < 4 + 8 * length ks → 13 ≡ layNumber room ed ks ws ls
     unfolding layNumber
-    lay-zero a b h = rw (a, b, le-ltb room (4 + 8 * length ks) h)
+    lay-thirteen g a b h = rw (g, a, b, lt-ltb room (4 + 8 * length ks) h)
+
+    pub lay-zero : goodEdition ed ≡ true → tooMany ks ws ls ≡ false → badLists ks ws ls ≡ false → 4 + 8 * length ks ≤ room → 0 ≡ layNumber room ed ks ws ls
+    unfolding layNumber
+    lay-zero g a b h = rw (g, a, b, le-ltb room (4 + 8 * length ks) h)
 
 -- ---- lists that are not refused
-pub record Lists (room : ℕ) (ks ws ls : List ℕ) : Type 0 where
+pub record Lists (room ed : ℕ) (ks ws ls : List ℕ) : Type 0 where
+  pub edition : goodEdition ed ≡ true
   pub few : length ks ≤ 16
   pub widths : length ws ≡ length ks
   pub lengths : length ls ≡ length ks
@@ -76,9 +82,9 @@ pub record Lists (room : ℕ) (ks ws ls : List ℕ) : Type 0 where
   pub size : laidStart ls (length ls) ≤ 60000
   pub area : 4 + 8 * length ks ≤ room
 
-found : (ks ws ls : List ℕ) (room : ℕ) → tooMany ks ws ls ≡ false → badLists ks ws ls ≡ false → ltb room (4 + 8 * length ks) ≡ false → Lists room ks ws ls
+found : (ks ws ls : List ℕ) (room ed : ℕ) → goodEdition ed ≡ true → tooMany ks ws ls ≡ false → badLists ks ws ls ≡ false → ltb room (4 + 8 * length ks) ≡ false → Lists room ed ks ws ls
 unfolding tooMany badLists
-found ks ws ls room a b r =
+found ks ws ls room ed g a b r =
     let many = ltb 16 (length ks) in
     let wide = ltb 16 (length ws) in
     let w = not (eqb (length ws) (length ks)) in
@@ -86,6 +92,7 @@ found ks ws ls room a b r =
     let k = anyBelow (length ks) (badKind ks) in
     let big = ltb 60000 (laidStart ls (length ls)) in
     let equal = or-no-left (w || l) k (or-no-left (w || l || k) big b) in record {
+      edition = g;
       few = ltb-false 16 (length ks) (or-no-left many wide (or-no-left (many || wide) (ltb 16 (length ls)) a));
       widths = eqb-true (length ws) (length ks) (not-false (eqb (length ws) (length ks)) (or-no-left w l equal));
       lengths = eqb-true (length ls) (length ks) (not-false (eqb (length ls) (length ks)) (or-no-right w l equal));
@@ -94,20 +101,24 @@ found ks ws ls room a b r =
       area = ltb-false room (4 + 8 * length ks) r;
     }
 
-pub lay-lists : (room : ℕ) (ks ws ls : List ℕ) (n : ℕ) → n ≡ layNumber room ks ws ls → n ≡ 0 → Lists room ks ws ls
-lay-lists room ks ws ls n is z = nine (tooMany ks ws ls) refl
+pub lay-lists : (room ed : ℕ) (ks ws ls : List ℕ) (n : ℕ) → n ≡ layNumber room ed ks ws ls → n ≡ 0 → Lists room ed ks ws ls
+lay-lists room ed ks ws ls n is z = edition (goodEdition ed) refl
   where
-    not-number : (m : ℕ) → 0 < m → m ≡ layNumber room ks ws ls → ⊥
+    not-number : (m : ℕ) → 0 < m → m ≡ layNumber room ed ks ws ls → ⊥
     not-number m p e = omega arith
 
-    thirteen : tooMany ks ws ls ≡ false → badLists ks ws ls ≡ false → (t : Bool) → ltb room (4 + 8 * length ks) ≡ t → t ≡ false
-    thirteen a b true e = absurd (not-number 13 (omega arith) (lay-thirteen ks ws ls room a b (ltb-true room (4 + 8 * length ks) e)))
-    thirteen a b false e = refl
+    thirteen : goodEdition ed ≡ true → tooMany ks ws ls ≡ false → badLists ks ws ls ≡ false → (t : Bool) → ltb room (4 + 8 * length ks) ≡ t → t ≡ false
+    thirteen g a b true e = absurd (not-number 13 (omega arith) (lay-thirteen ks ws ls room ed g a b (ltb-true room (4 + 8 * length ks) e)))
+    thirteen g a b false e = refl
 
-    ten : tooMany ks ws ls ≡ false → (t : Bool) → badLists ks ws ls ≡ t → Lists room ks ws ls
-    ten a true e = absurd (not-number 10 (omega arith) (lay-ten ks ws ls room a e))
-    ten a false e = found ks ws ls room a e (thirteen a e (ltb room (4 + 8 * length ks)) refl)
+    ten : goodEdition ed ≡ true → tooMany ks ws ls ≡ false → (t : Bool) → badLists ks ws ls ≡ t → Lists room ed ks ws ls
+    ten g a true e = absurd (not-number 10 (omega arith) (lay-ten ks ws ls room ed g a e))
+    ten g a false e = found ks ws ls room ed g a e (thirteen g a e (ltb room (4 + 8 * length ks)) refl)
 
-    nine : (t : Bool) → tooMany ks ws ls ≡ t → Lists room ks ws ls
-    nine true e = absurd (not-number 9 (omega arith) (lay-nine ks ws ls room e))
-    nine false e = ten e (badLists ks ws ls) refl
+    nine : goodEdition ed ≡ true → (t : Bool) → tooMany ks ws ls ≡ t → Lists room ed ks ws ls
+    nine g true e = absurd (not-number 9 (omega arith) (lay-nine ks ws ls room ed g e))
+    nine g false e = ten g e (badLists ks ws ls) refl
+
+    edition : (t : Bool) → goodEdition ed ≡ t → Lists room ed ks ws ls
+    edition false e = absurd (not-number 9 (omega arith) (lay-edition ks ws ls room ed e))
+    edition true e = nine e (tooMany ks ws ls) refl

@@ -11,10 +11,11 @@ use lib.Seq.{take-at, drop-at, drop-drop, take-all, getD-take, getD-drop}
 use borrow.Author.Tests.{le-ltb, eq-eqb, not-false}
 use Rattle.exact.specs.Sum.{total}
 use Rattle.exact.proofs.Laws.Sum.{split, total-ext}
+use Rattle.editions.specs.Edition.{goodEdition}
 use Rattle.fields.specs.Bytes.{byteAt, le, number}
 use Rattle.fields.proofs.Laws.Front.{length-le}
 use Rattle.fields.proofs.Laws.Number.{number-drop, number-take, number-le}
-use Rattle.contents.specs.Contents.{countOf, kindOf, widthOf, lengthOf, startOf, entryOf, bodyStart, headerFault, goodKind, entryFault, contentsNumber}
+use Rattle.contents.specs.Contents.{editionOf, countOf, kindOf, widthOf, lengthOf, startOf, entryOf, bodyStart, headerFault, goodKind, entryFault, contentsNumber}
 use Rattle.contents_lay.specs.Lay.{entryBytes, laidStart, entriesBytes, laidBytes, badKind, layNumber}
 use Rattle.contents.proofs.Laws.Some.{some-none, none}
 use Rattle.contents.proofs.Laws.Entry.{entry-eq, fault-pass}
@@ -75,9 +76,13 @@ module _ (ks ws ls : List ℕ) where
           ∙ ap entry (sym q)
 
 -- ---- the book: what was laid, and the bodies
-module _ (room : ℕ) (ks ws ls tail : List ℕ) (ok : Lists room ks ws ls) (full : length tail ≡ total (length ls) (λ v. getD ls v 0)) where
+module _ (room ed : ℕ) (ks ws ls tail : List ℕ) (ok : Lists room ed ks ws ls) (full : length tail ≡ total (length ls) (λ v. getD ls v 0)) where
   abbrev book : List ℕ
-  book = laidBytes ks ws ls ++ tail
+  book = laidBytes ed ks ws ls ++ tail
+
+  pub round-edition : editionOf book ≡ ed
+  unfolding editionOf laidBytes
+  round-edition = refl
 
   pub round-count : countOf book ≡ length ks
   unfolding countOf laidBytes
@@ -85,7 +90,7 @@ module _ (room : ℕ) (ks ws ls tail : List ℕ) (ok : Lists room ks ws ls) (ful
 
   book-length : length book ≡ laidStart ls (length ls)
   unfolding laidStart
-  book-length = length-append (laidBytes ks ws ls) tail ∙ omega (arith, length-laid ks ws ls, ok .lengths, full)
+  book-length = length-append (laidBytes ed ks ws ls) tail ∙ omega (arith, length-laid ed ks ws ls, ok .lengths, full)
 
   room-four : 4 + 8 * length ks ≤ laidStart ls (length ls)
   unfolding laidStart
@@ -146,7 +151,7 @@ module _ (room : ℕ) (ks ws ls tail : List ℕ) (ok : Lists room ks ws ls) (ful
   round-header : headerFault book ≡ false
   unfolding laidBytes
   round-header =
-      sym (header-count book (omega (arith, book-length, room-four)) (omega (arith, book-length, ok .size)) refl refl refl) ∙ le-ltb 16 (length ks) (ok .few)
+      sym (header-count book (omega (arith, book-length, room-four)) (omega (arith, book-length, ok .size)) refl refl (ap goodEdition round-edition ∙ ok .edition)) ∙ le-ltb 16 (length ks) (ok .few)
 
   -- the book is accepted
   pub round-number : contentsNumber book ≡ 0
@@ -157,18 +162,20 @@ module _ (room : ℕ) (ks ws ls tail : List ℕ) (ok : Lists room ks ws ls) (ful
       sym (number-none book round-header fine)
 
 -- lists that are laid in some area, and bodies of their lengths: the book, in one statement
-pub record Round (ks ws ls bs : List ℕ) : Type 0 where
+pub record Round (ed : ℕ) (ks ws ls bs : List ℕ) : Type 0 where
+  pub edition : editionOf bs ≡ ed
   pub number : contentsNumber bs ≡ 0
   pub count : countOf bs ≡ length ks
   pub entry : (j : ℕ) → j < length ks → entryOf bs j ≡ record { kind = getD ks j 0; width = getD ws j 0; start = laidStart ls j; length = getD ls j 0 }
   pub start : (j : ℕ) → j ≤ length ks → bodyStart bs j ≡ laidStart ls j
 
-pub round : (room : ℕ) (ks ws ls tail : List ℕ) → layNumber room ks ws ls ≡ 0 → length tail ≡ total (length ls) (λ v. getD ls v 0)
-    → Round ks ws ls (laidBytes ks ws ls ++ tail)
-round room ks ws ls tail z full =
-    let ok = lay-lists room ks ws ls 0 (sym z) refl in record {
-      number = round-number room ks ws ls tail ok full;
-      count = round-count room ks ws ls tail ok full;
-      entry = round-entry room ks ws ls tail ok full;
-      start = round-start room ks ws ls tail ok full;
+pub round : (room ed : ℕ) (ks ws ls tail : List ℕ) → layNumber room ed ks ws ls ≡ 0 → length tail ≡ total (length ls) (λ v. getD ls v 0)
+    → Round ed ks ws ls (laidBytes ed ks ws ls ++ tail)
+round room ed ks ws ls tail z full =
+    let ok = lay-lists room ed ks ws ls 0 (sym z) refl in record {
+      edition = round-edition room ed ks ws ls tail ok full;
+      number = round-number room ed ks ws ls tail ok full;
+      count = round-count room ed ks ws ls tail ok full;
+      entry = round-entry room ed ks ws ls tail ok full;
+      start = round-start room ed ks ws ls tail ok full;
     }

@@ -12,11 +12,11 @@ use Rattle.contents_lay.proofs.lay.Tie as tie
 
 -- what is known of the lists that are not refused
 ok : (c : tie.Else1)
-    → Lists (length (c .before .before .before .before .before .before .args .area .now)) (c .before .before .before .before .before .before .args .kinds .now) (c .before .before .before .before .before .before .args .widths .now) (c .before .before .before .before .before .before .args .lengths .now)
+    → Lists (length (c .before .before .before .before .before .before .args .area .now)) (c .before .before .before .before .before .before .args .edition) (c .before .before .before .before .before .before .args .kinds .now) (c .before .before .before .before .before .before .args .widths .now) (c .before .before .before .before .before .before .args .lengths .now)
 ok c =
     let a = c .before .before .before .before .before .before .args in
     let n = c .before .lay-number in
-    lay-lists (length (a .area .now)) (a .kinds .now) (a .widths .now) (a .lengths .now) (n .result) (n .ensures) (c .if1 .left)
+    lay-lists (length (a .area .now)) (a .edition) (a .kinds .now) (a .widths .now) (a .lengths .now) (n .result) (n .ensures) (c .if1 .left)
 
 lay-number-requires : tie.Need-lay-number-requires
 lay-number-requires c κs = search needs
@@ -25,7 +25,7 @@ returns : tie.Need-returns
 returns c =
     let a = c .before .before .before .before .before .before .args in
     let n = c .before .lay-number in
-    refused (a .area .now) (a .kinds .now) (a .widths .now) (a .lengths .now) (n .result) (n .ensures) (c .if1 .taken)
+    refused (a .area .now) (a .edition) (a .kinds .now) (a .widths .now) (a .lengths .now) (n .result) (n .ensures) (c .if1 .taken)
 
 cast-write-header : tie.Need-cast-write-header
 cast-write-header c = omega (arith, ok (c .before) .few)
@@ -47,11 +47,11 @@ write-entries-requires c κs =
     let l = ok (c .before .before .before .before .before) in
     record { few = l .few; widths = l .widths; lengths = l .lengths; room = simp (lent-part, length-drop) (omega (arith, l .area)) }
 
-mul-t7 : tie.Need-mul-t7
-mul-t7 c = omega (arith, ok (c .before .before .before .before .before .before .before .before) .few)
+mul-t8 : tie.Need-mul-t8
+mul-t8 c = omega (arith, ok (c .before .before .before .before .before .before .before .before) .few)
 
-add-t16 : tie.Need-add-t16
-add-t16 c = omega (arith, ok (c .before .before .before .before .before .before .before .before) .few)
+add-t17 : tie.Need-add-t17
+add-t17 c = omega (arith, ok (c .before .before .before .before .before .before .before .before) .few)
 
 same-length : tie.Need-same-length
 same-length c = search needs
@@ -66,8 +66,8 @@ returns-2 c =
     let ls = a .lengths .now in
     let n = c .before .before .before .before .before .before .before .before .before .lay-number in
     let w = c .before .before .write-entries in
-    laid xs ks ws ls _ (n .result) (n .ensures) (c .before .before .before .before .before .before .before .before .if1 .left)
-    (lent-front xs (headerBytes (length ks)) (entriesBytes ks ws ls (length ks)) _ (w .last .0) 4 (c .before .before .before .before .before .before .write-header .ensures) refl (w .ensures))
+    laid xs (a .edition) ks ws ls _ (n .result) (n .ensures) (c .before .before .before .before .before .before .before .before .if1 .left)
+    (lent-front xs (headerBytes (a .edition) (length ks)) (entriesBytes ks ws ls (length ks)) _ (w .last .0) 4 (c .before .before .before .before .before .before .write-header .ensures) refl (w .ensures))
 
 pub lay-spec : {M : Type 1} → statement M
 lay-spec =
@@ -81,7 +81,7 @@ lay-spec =
     part-write-entries-start
     part-write-entries-end
     write-entries-requires
-    mul-t7
-    add-t16
+    mul-t8
+    add-t17
     same-length
     returns-2)

@@ -25,7 +25,7 @@ same-length c = search needs
 
 returns : tie.Need-returns
 unfolding front
-returns c = sets-eq (headerBytes (c .args .count)) (c .args .part .now) 0 (omega arith)
+returns c = sets-eq (headerBytes (c .args .edition) (c .args .count)) (c .args .part .now) 0 (omega arith)
 
 pub write-header-spec : {M : Type 1} → statement M
 write-header-spec =

@@ -20,27 +20,27 @@ use Rattle.book.proofs.Laws.Number.{book-clear}
 use Rattle.theorem_round_trip.specs.Book.{laidBook, Fits, Holds}
 use Rattle.theorem_round_trip.proofs.Laws.Joined.{joined-length, joined-at}
 
-module _ (room : ℕ) (ks ws ls : List ℕ) (bodies : ℕ → List ℕ) (z : layNumber room ks ws ls ≡ accepted) (fits : (j : ℕ) → j < length ks → Fits ks ws ls j (bodies j)) where
+module _ (room ed : ℕ) (ks ws ls : List ℕ) (bodies : ℕ → List ℕ) (z : layNumber room ed ks ws ls ≡ accepted) (fits : (j : ℕ) → j < length ks → Fits ks ws ls j (bodies j)) where
   abbrev book : List ℕ
-  book = laidBytes ks ws ls ++ joined (length ks) bodies
+  book = laidBytes ed ks ws ls ++ joined (length ks) bodies
 
   lengths : length ls ≡ length ks
-  lengths = lay-lists room ks ws ls 0 (sym z) refl .lengths
+  lengths = lay-lists room ed ks ws ls 0 (sym z) refl .lengths
 
   -- how many bytes the first bodies are
   first-bodies : (j : ℕ) → j ≤ length ks → length (joined j bodies) ≡ total j (λ v. getD ls v 0)
   first-bodies j h = joined-length j bodies ∙ total-ext j (λ v. length (bodies v)) (λ v. getD ls v 0) (λ v l. fits v (omega arith) .long)
 
   -- where body j is laid to start, those before it end
-  pub starts : (j : ℕ) → j ≤ length ks → laidStart ls j ≡ length (laidBytes ks ws ls) + length (joined j bodies)
+  pub starts : (j : ℕ) → j ≤ length ks → laidStart ls j ≡ length (laidBytes ed ks ws ls) + length (joined j bodies)
   unfolding laidStart
-  starts j h = omega (arith, length-laid ks ws ls, first-bodies j h, lengths)
+  starts j h = omega (arith, length-laid ed ks ws ls, first-bodies j h, lengths)
 
-  pub ends : laidStart ls (length ls) ≡ length (laidBytes ks ws ls) + length (joined (length ks) bodies)
+  pub ends : laidStart ls (length ls) ≡ length (laidBytes ed ks ws ls) + length (joined (length ks) bodies)
   ends = ap (laidStart ls) lengths ∙ starts (length ks) (omega arith)
 
-  rounded : Round ks ws ls book
-  rounded = round room ks ws ls (joined (length ks) bodies) z (first-bodies (length ks) (omega arith) ∙ ap (λ (n : ℕ). total n (λ v. getD ls v 0)) (sym lengths))
+  rounded : Round ed ks ws ls book
+  rounded = round room ed ks ws ls (joined (length ks) bodies) z (first-bodies (length ks) (omega arith) ∙ ap (λ (n : ℕ). total n (λ v. getD ls v 0)) (sym lengths))
 
   module _ (j : ℕ) (h : j < length ks) where
     kind-is : kindOf book j ≡ getD ks j 0
@@ -59,7 +59,7 @@ module _ (room : ℕ) (ks ws ls : List ℕ) (bodies : ℕ → List ℕ) (z : lay
     unfolding bytesOf
     body-is =
         ap₂ (λ (k at : ℕ). take k (drop at book)) (length-is ∙ sym (fits j h .long)) (start-is ∙ starts j (omega arith))
-        ∙ ap (take (length (bodies j))) (drop-append-add (laidBytes ks ws ls) (joined (length ks) bodies) (length (joined j bodies)))
+        ∙ ap (take (length (bodies j))) (drop-append-add (laidBytes ed ks ws ls) (joined (length ks) bodies) (length (joined j bodies)))
         ∙ joined-at (length ks) j bodies h
 
     number-is : BodyNumber book j accepted
@@ -71,9 +71,10 @@ module _ (room : ℕ) (ks ws ls : List ℕ) (bodies : ℕ → List ℕ) (z : lay
     }
 
   -- the whole book
-  pub laid-book : Holds ks ws ls bodies (laidBook ks ws ls bodies)
+  pub laid-book : Holds ed ks ws ls bodies (laidBook ed ks ws ls bodies)
   unfolding laidBook
   laid-book = record {
+    edition = rounded .edition;
     contents = rounded .number;
     number = book-clear book (length ks) (rounded .number) (omega (arith, rounded .count)) number-is;
     count = rounded .count;

@@ -29,7 +29,7 @@ module _ (t : State) (N : Normal t) where
     normal = λ z. written-normal t N;
   }
 
-  module _ (ks ws ls : List ℕ) (bodies : ℕ → List ℕ) (bs : List ℕ) (H : Holds ks ws ls bodies bs) where
+  module _ (ed : ℕ) (ks ws ls : List ℕ) (bodies : ℕ → List ℕ) (bs : List ℕ) (H : Holds ed ks ws ls bodies bs) where
     module _ (j : ℕ) (h : j < length ks) (kind : getD ks j 0 ≡ 2) (width : getD ws j 0 ≡ ones (t .live)) (body : bodies j ≡ pack.bodyBytes t) (r : Body) (R : ReadsBody bs j r) where
       answers : TableAnswer (ones (t .live)) (pack.bodyBytes t) r
       answers =
