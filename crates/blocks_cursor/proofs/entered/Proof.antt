@@ -7,24 +7,32 @@ use Rattle.blocks_cursor.proofs.entered.Tie as tie
 add-first : tie.Need-add-first
 add-first c = search needs
 
-mul-c : tie.Need-mul-c
-mul-c c = search needs
+mul-starts : tie.Need-mul-starts
+mul-starts c = search needs
 
-element-write-c : tie.Need-element-write-c
-element-write-c c = search needs
+element-write-starts : tie.Need-element-write-starts
+element-write-starts c = search needs
 
-sub-c : tie.Need-sub-c
-sub-c c = search needs
+sub-lefts : tie.Need-sub-lefts
+sub-lefts c = search needs
 
-element-write-c-2 : tie.Need-element-write-c-2
-element-write-c-2 c = search needs
+element-write-lefts : tie.Need-element-write-lefts
+element-write-lefts c = search needs
 
-add-c : tie.Need-add-c
-add-c c = search needs
+add-t7 : tie.Need-add-t7
+add-t7 c = search needs
 
 returns : tie.Need-returns
 returns c = refl
 
 pub entered-spec : {M : Type 1} → statement M
 entered-spec =
-    tie.close (tie.spec add-first mul-c element-write-c sub-c element-write-c-2 add-c returns)
+    tie.close
+    (tie.spec
+    add-first
+    mul-starts
+    element-write-starts
+    sub-lefts
+    element-write-lefts
+    add-t7
+    returns)

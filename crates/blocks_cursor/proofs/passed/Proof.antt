@@ -1,7 +1,7 @@
 -- `passed` meets its contract: a mark opens a block or closes one, and as much is left to do.
-use native.Mathlib.Omega.{arith}
 use mathlib.Core.Path.{sym, subst}
-use Rattle.blocks_cursor.specs.Inner.Cursor.{Passes}
+use native.Mathlib.Omega.{arith}
+use Rattle.blocks_cursor.specs.Inner.Cursor.{stand, Passes}
 use Rattle.blocks_cursor.proofs.Laws.Cursor.{open-room, close-room, enter-law, leave-law}
 use borrow.Author.Needs.{needs}
 use Rattle.blocks_cursor.proofs.passed.Statement.{statement}
@@ -23,16 +23,29 @@ shared-slice-read-times : tie.Need-shared-slice-read-times
 shared-slice-read-times c = search needs
 
 entered-requires : tie.Need-entered-requires
-entered-requires c κs = (omega (arith, c .before .before .before .before .pre .at .range, c .before .before .before .before .pre .at .held .few), open-room _ _ (c .before .before .before .before .pre .at) (c .before .if1 .taken), c .before .before .before .before .pre .at .held .counts _ (c .before .before .before .before .pre .at .range) (c .before .if1 .taken))
+entered-requires c κs =
+    let s = c .before .before .before .before .before .before in
+    let H = s .pre .at .held in
+    let t = c .before .before .before .if1 .taken in
+    (omega (arith, s .pre .at .range, H .few), open-room (s .args .items .now) _ (s .pre .at) t, H .counts _ (s .pre .at .range) t, H .starts, H .lefts)
 
 returns : tie.Need-returns
-returns c = subst (Passes (c .before .before .before .before .before .args .items .now) (c .before .before .before .before .before .args .c)) (sym (c .entered .ensures)) (enter-law _ _ (c .before .before .before .before .before .pre .at) (c .before .before .if1 .taken))
+returns c =
+    let s = c .before .before .before .before .before .before .before in
+    let m = stand (s .args .c) (s .args .starts .now) (s .args .lefts .now) in
+    subst (Passes (s .args .items .now) m) (sym (c .entered .ensures)) (enter-law (s .args .items .now) m (s .pre .at) (c .before .before .before .before .if1 .taken))
 
 left-requires : tie.Need-left-requires
-left-requires c κs = (omega (arith, c .before .before .before .pre .at .range, c .before .before .before .pre .at .held .few), close-room _ _ (c .before .before .before .pre .at) (c .before .before .before .pre .mark (c .if1 .left)), c .before .before .before .pre .at .held .deep)
+left-requires c κs =
+    let s = c .before .before .before .before .before in
+    let H = s .pre .at .held in
+    (omega (arith, s .pre .at .range, H .few), close-room (s .args .items .now) _ (s .pre .at) (s .pre .mark (c .before .before .if1 .left)), H .deep, H .starts, H .lefts)
 
 returns-2 : tie.Need-returns-2
-returns-2 c = subst (Passes (c .before .before .before .before .args .items .now) (c .before .before .before .before .args .c)) (sym (c .left .ensures)) (leave-law _ _ (c .before .before .before .before .pre .at) (c .before .before .before .before .pre .mark (c .before .if1 .left)))
+returns-2 c =
+    let s = c .before .before .before .before .before .before in
+    let m = stand (s .args .c) (s .args .starts .now) (s .args .lefts .now) in
+    subst (Passes (s .args .items .now) m) (sym (c .left .ensures)) (leave-law (s .args .items .now) m (s .pre .at) (s .pre .mark (c .before .before .before .if1 .left)))
 
 pub passed-spec : {M : Type 1} → statement M
 passed-spec =
