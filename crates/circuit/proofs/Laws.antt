@@ -2,4 +2,3 @@ pub mod Amplitude
 pub mod Begin
 pub mod Only
 pub mod Editions
-pub mod Run

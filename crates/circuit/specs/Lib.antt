@@ -1,2 +1,1 @@
 pub mod Amplitude
-pub mod Inner

@@ -6,6 +6,8 @@ ghost use lib.ListN.{length};
 ghost use Rattle.blocks.specs.Expansion.{itemCount};
 ghost use Rattle.gates.specs.Read.{gateRead};
 ghost use Rattle.gates.specs.Circuit.{numberOf, itemAt, gatesNumber, itemsNumber, circuitNumber};
+ghost use Rattle.gates.specs.Record.{recordNumber};
+ghost use Rattle.circuit_number.specs.Inner.Tested.{testedNumber};
 use gates::Reading;
 
 // Item `j` of the bytes, read on so many wires in a dialect, which is the edition of a circuit.
@@ -133,13 +135,10 @@ fn items_number(dialect: u8, gates: &[u8], width: u8) -> u8
     block
 }
 
-// The number of a circuit of an edition: 9, 11, 6, 8, gates and marks in order, blocks.
-pub fn number(edition: u8, width: u8, input: u32, output: u32, gates: &[u8]) -> u8
-    ensures { λ r. ⌜ r ≡ circuitNumber edition width input output (now (gates .entry)) ⌝ }
+// The number of what stands in a dialect: 11, 6, 8, gates and marks in order, blocks.
+fn tested(dialect: u8, width: u8, input: u32, output: u32, gates: &[u8]) -> u8
+    ensures { λ r. ⌜ r ≡ testedNumber dialect width input output (now (gates .entry)) ⌝ }
 {
-    if !editions::good_edition(edition) {
-        return exact::BAD_HEADER;
-    }
     if gates.len() % 3 != 0 {
         return exact::BAD_BODY;
     }
@@ -159,5 +158,22 @@ pub fn number(edition: u8, width: u8, input: u32, output: u32, gates: &[u8]) -> 
     if strings <= output as u64 {
         return exact::BAD_STRING;
     }
-    items_number(edition, gates, width)
+    items_number(dialect, gates, width)
+}
+
+// The number of a circuit of an edition: 9 for the edition, before its own.
+pub fn number(edition: u8, width: u8, input: u32, output: u32, gates: &[u8]) -> u8
+    ensures { λ r. ⌜ r ≡ circuitNumber edition width input output (now (gates .entry)) ⌝ }
+{
+    if !editions::good_edition(edition) {
+        return exact::BAD_HEADER;
+    }
+    tested(edition, width, input, output, gates)
+}
+
+// The number of a record: as a circuit's, in its own dialect and with one string.
+pub fn record(width: u8, input: u32, gates: &[u8]) -> u8
+    ensures { λ r. ⌜ r ≡ recordNumber width input (now (gates .entry)) ⌝ }
+{
+    tested(gates::RECORD, width, input, 0, gates)
 }
