@@ -24,7 +24,7 @@ extern "C" {
 enum {
     TOPAZFERN_ACCEPTED = 0,
     TOPAZFERN_NOT_LIVE = 1,      /* an assignment has a bit that is not live */
-    TOPAZFERN_TWICE = 2,         /* the same wire twice */
+    TOPAZFERN_TWICE = 2,         /* a gate names the same wire twice; no call on a table has it */
     TOPAZFERN_RANGE = 3,         /* second byte of a one-wire gate not 0; a block's count of 0, or a stray byte of its marks */
     TOPAZFERN_WIDTH = 6,         /* width of a circuit not 1..31, or a wire not below it */
     TOPAZFERN_CODE = 7,          /* unknown gate code */

@@ -18,9 +18,9 @@ sys.path[:0] = [str(Path(__file__).resolve().parent / part) for part in ("drawn"
 from tables import Table, answer, bits, case, mask_of
 from words import WORD, word
 
-CALLS = ["new_bit", "quarter", "sign", "scale", "tie", "sum", "fix", "join"]
-ENTRY, COPY, LOOK = 8, 9, 10
-ZERO, POWER, LIVE, PHASE, TURN, ROW, COUNT, TIE = range(11, 19)
+CALLS = ["new_bit", "turn", "scale", "tie", "sum", "fix", "join"]
+ENTRY, COPY, LOOK = 7, 8, 9
+ZERO, POWER, LIVE, PHASE, TURN, ROW, COUNT, TIE = range(10, 18)
 FIRST, SECOND, BASE, BESIDE, SPOILT, FULL, FRESH = 0, 1, 2, 3, 4, 6, 7  # what the eight tables are used for
 
 records, lines = [], []
@@ -54,9 +54,9 @@ def called(i, j, call):
     looked_at(i, after)
     name, *given = call
     small, place, number = 0, 0, 0
-    if name == "sign":
-        number, place = given
-    elif name == "scale" or name == "tie" or name == "quarter" or name == "fix":
+    if name == "turn":
+        number, place, small = given
+    elif name == "scale" or name == "tie" or name == "fix":
         number, small = given
     elif name == "sum":
         (number,) = given
@@ -170,12 +170,18 @@ def assignment(draw, t):
     return (x | 1 << t.free()) & WORD if kind == 0 else w if kind == 1 else x
 
 
+def pair(draw, t):
+    """Two slots, in two of five draws the same one, and a count of quarter turns; on two slots mostly an even one. The second slot has a byte."""
+    u, v, k = slot(draw(2), t), min(255, slot(draw(3), t)), small(draw(8), 4)
+    if draw(9) % 5 < 2:
+        return v, v, k
+    return u, v, k if draw(12) % 4 == 0 or k > 3 else k // 2 * 2
+
+
 def of_kind(name, draw, t):
     """A call by its name, with what it is given."""
-    if name == "quarter":
-        return (name, slot(draw(2), t), small(draw(3), 4))
-    if name == "sign":
-        return (name, slot(draw(2), t), min(255, slot(draw(3), t)))
+    if name == "turn":
+        return (name, *pair(draw, t))
     if name == "scale":
         return (name, power(draw(2), t.power), small(draw(3), 8))
     if name == "tie":
@@ -195,7 +201,7 @@ def drawn(draw, t, other, limit):
         return ("new_bit",)
     if kind >= 30 and (t.count() + other.count() > 64 or used + len(other.slots) <= 10):
         return ("join",)
-    for top, name in [(9, "sum"), (13, "quarter"), (19, "sign"), (21, "scale"), (24, "tie"), (27, "sum"), (29, "fix"), (31, "sum")]:
+    for top, name in [(9, "sum"), (19, "turn"), (21, "scale"), (24, "tie"), (27, "sum"), (29, "fix"), (31, "sum")]:
         if kind <= top:
             return of_kind(name, draw, t)
 
@@ -280,7 +286,7 @@ def based(i, base):
         if not base >> v & 1:
             called(i, FRESH, ("fix", v, v % 2))
         elif v % 4:
-            called(i, FRESH, ("quarter", v, v % 4))
+            called(i, FRESH, ("turn", v, v, v % 4))
 
 
 LIMITS = [6, 6, 10, 6, 4, 10, 10, 6]
@@ -340,7 +346,7 @@ def powers(b):
     for a, near in enumerate(NEAR):
         copied(FIRST, base)
         do(FIRST, SECOND, ("scale", near, 0), ("scale", FAR[b], 1), ("join",))
-        do(FIRST, SECOND, ("new_bit",), ("quarter", v, (2 * a + b) % 4), ("sum", v))
+        do(FIRST, SECOND, ("new_bit",), ("turn", v, v, (2 * a + b) % 4), ("sum", v))
     do(FIRST, SECOND, ("tie", 0, 1), ("scale", FAR[b], 1), ("join",))
 
 
@@ -349,7 +355,7 @@ def last_sums():
     for s in (-2000, 1997, 1998, 1999, 2000):
         for k in range(4):
             copied(FIRST, FRESH)
-            do(FIRST, FRESH, ("scale", s, 0), ("new_bit",), ("quarter", 0, k), ("sum", 0))
+            do(FIRST, FRESH, ("scale", s, 0), ("new_bit",), ("turn", 0, 0, k), ("sum", 0))
 
 
 def last_slots():
@@ -357,18 +363,21 @@ def last_slots():
     for more in (2, 3, 4):
         copied(FIRST, BASE)
         copied(SECOND, FRESH)
-        do(SECOND, FRESH, *[("new_bit",)] * more, ("quarter", 1, 1), ("sign", 0, 1), ("scale", 2000, 3))
+        do(SECOND, FRESH, *[("new_bit",)] * more, ("turn", 1, 1, 1), ("turn", 0, 1, 2), ("scale", 2000, 3))
         do(FIRST, SECOND, ("join",), ("new_bit",), ("new_bit",), ("scale", 2000, 0), ("join",))
         copied(FIRST, BASE)
         do(SECOND, FIRST, ("join",), ("new_bit",), ("new_bit",))
 
 
 def orders():
-    """Calls with two faults: the first in the order 3, 1, 2, 4, 5 is told."""
+    """Calls with two faults: the first in the order 3, 1, 4, 5 is told; and the edges of a turn, on a zero table at last."""
     copied(FIRST, FRESH)
     do(FIRST, FRESH, ("new_bit",), ("new_bit",), ("scale", 2000, 0))
-    do(FIRST, FRESH, ("quarter", 2, 4), ("fix", 64, 2), ("tie", 4, 2), ("sign", 2, 2), ("sign", 1, 1), ("scale", 1, 8), ("tie", 0, 0))
-    do(FIRST, FRESH, ("sum", 2**64 - 1), ("sum", 0), ("quarter", 0, 1), ("sum", 0), ("quarter", 0, 1), ("sum", 0), ("tie", 3, 1))
+    do(FIRST, FRESH, ("turn", 2, 2, 4), ("fix", 64, 2), ("tie", 4, 2), ("turn", 2, 3, 1), ("turn", 1, 70, 3), ("turn", 70, 70, 1), ("scale", 1, 8), ("tie", 0, 0))
+    do(FIRST, FRESH, *[("turn", u, v, k) for u, v in ((0, 0), (0, 1), (1, 0), (0, 2), (2, 0), (2, 2)) for k in range(5)])
+    do(FIRST, FRESH, ("turn", 2**64 - 1, 255, 0), ("turn", 2**64 - 1, 255, 1), ("turn", 64, 64, 3), ("turn", 64, 64, 4))
+    do(FIRST, FRESH, ("sum", 2**64 - 1), ("sum", 0), ("turn", 0, 0, 1), ("sum", 0), ("turn", 0, 0, 1), ("sum", 0), ("tie", 3, 1))
+    do(FIRST, FRESH, ("tie", 0, 1), ("turn", 0, 0, 1), ("turn", 0, 1, 2), ("turn", 0, 1, 1), ("turn", 0, 2, 2))
 
 
 def plans():

@@ -16,15 +16,14 @@ fn changed(r: Record, t: Table) -> Changed {
     let v = Slot(r.word as usize);
     let code = r.code;
     match code {
-        1 => t.quarter(v, Quarter(r.small)),
-        2 => t.sign(v, Slot(r.place as usize)),
-        3 => t.scale(record::power(r.word), Eighth(r.small)),
-        4 => t.tie(r.word, r.small),
+        1 => t.turn(v, Slot(r.place as usize), Quarter(r.small)),
+        2 => t.scale(record::power(r.word), Eighth(r.small)),
+        3 => t.tie(r.word, r.small),
         _ => t.fix(v, r.small),
     }
 }
 
-// The table after the call of a code below 8 on `t`, a join with `other`; what else it answers is printed: the number of refusal or 0, the slot of a new bit, the case of a sum and the one that the fields before it say, the places of a join.
+// The table after the call of a code below 7 on `t`, a join with `other`; what else it answers is printed: the number of refusal or 0, the slot of a new bit, the case of a sum and the one that the fields before it say, the places of a join.
 pub(crate) fn made(r: Record, t: Table, other: Table) -> Table {
     let code = r.code;
     match code {
@@ -34,7 +33,7 @@ pub(crate) fn made(r: Record, t: Table, other: Table) -> Table {
             print::number(o.slot.0 as u64);
             o.table
         }
-        5 => {
+        4 => {
             let s = t.state;
             let c = t.sum(Slot(r.word as usize));
             let rule = c.rule;
@@ -47,7 +46,7 @@ pub(crate) fn made(r: Record, t: Table, other: Table) -> Table {
             });
             c.table
         }
-        7 => {
+        6 => {
             let j = t.join(other);
             let places = j.places;
             print::number(j.refusal as u64);

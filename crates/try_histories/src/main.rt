@@ -40,17 +40,17 @@ fn show(before: Table, t: Table, look: u64, n: u64) {
 fn step(t: Table, other: Table, r: Record, look: u64, n: u64) -> Table {
     let code = r.code;
     match code {
-        0..=7 => {
+        0..=6 => {
             let after = call::made(r, t, other);
             show(t, after, look, n);
             after
         }
-        8 => {
+        7 => {
             print::last(digest::entry(0, t, r.word));
             t
         }
-        9 => other,
-        10 => t,
+        8 => other,
+        9 => t,
         _ => {
             let s = t.state;
             Table {
@@ -73,7 +73,7 @@ fn main() {
         }
         let i = (r.table % 8) as usize;
         let j = (r.other % 8) as usize;
-        looks[i] = if r.code == 10 { r.word } else { looks[i] };
+        looks[i] = if r.code == 9 { r.word } else { looks[i] };
         let t = tables[i];
         let other = tables[j];
         tables[i] = step(t, other, r, looks[i], n);

@@ -12,12 +12,12 @@ fn form(mut f: Form, r: Record) -> Form {
     let v = (r.place % 64) as usize;
     let code = r.code;
     match code {
-        14 => {
+        13 => {
             let c = Eighth(r.small);
             f.phase = c;
             f
         }
-        15 => {
+        14 => {
             let a = Quarter(r.small);
             f.turns[v] = a;
             f
@@ -34,7 +34,7 @@ fn ties(mut t: Ties, r: Record) -> Ties {
     let j = (r.place % 64) as usize;
     let code = r.code;
     match code {
-        17 => {
+        16 => {
             t.count = r.word as usize;
             t
         }
@@ -46,26 +46,26 @@ fn ties(mut t: Ties, r: Record) -> Ties {
     }
 }
 
-// The field of a code from 11 on.
+// The field of a code from 10 on.
 pub(crate) fn field(mut t: State, r: Record) -> State {
     let f = t.form;
     let s = t.ties;
     let code = r.code;
     match code {
-        11 => {
+        10 => {
             t.zero = r.small == 1;
             t
         }
-        12 => {
+        11 => {
             let p = record::power(r.word);
             t.power = p;
             t
         }
-        13 => {
+        12 => {
             t.live = r.word;
             t
         }
-        14..=16 => {
+        13..=15 => {
             t.form = form(f, r);
             t
         }

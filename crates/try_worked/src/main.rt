@@ -1,4 +1,4 @@
-// The cases of document 01 that are worked by hand, run by the code: a line for each, in that paper's order, with those of both editions and of repeated blocks, then the spreads of request A1 and the cases of request A6. The expected lines are worked by hand.
+// The cases of document 01 that are worked by hand, run by the code: a line for each, in that paper's order, with those of both editions and of repeated blocks, then the spreads of request A1, the cases of request A6 and the turns of request A2. The expected lines are worked by hand.
 use call_answers::Counted;
 use doubles::Doubles;
 use exact::Amount;
@@ -8,6 +8,7 @@ use exact::Power;
 use exact::Quarter;
 use exact::Slot;
 use state::Rule;
+use table::Changed;
 use table::Summed;
 use table::Table;
 
@@ -59,13 +60,13 @@ fn wider(t: Table) -> Table {
 
 // A table with slot `v` turned by `k` quarters.
 fn turned(t: Table, v: usize, k: u8) -> Table {
-    let c = t.quarter(Slot(v), Quarter(k));
+    let c = t.turn(Slot(v), Slot(v), Quarter(k));
     c.table
 }
 
 // A table with a sign between two slots.
 fn signed(t: Table, u: usize, v: usize) -> Table {
-    let c = t.sign(Slot(u), Slot(v));
+    let c = t.turn(Slot(u), Slot(v), Quarter(2));
     c.table
 }
 
@@ -394,6 +395,37 @@ fn rules() {
     show_rule(b"a free slot, sum", bit(0, 0).sum(Slot(1)));
 }
 
+// The entry of what a turn left where slots 0 and 1 are 1, or its refusal.
+fn both_on(c: Changed) -> Answer {
+    if c.refusal != 0 {
+        return Answer::Refused(c.refusal);
+    }
+    let t = c.table;
+    t.entry(3)
+}
+
+// Two bits, and a turn of slots `u` and `v` by `k`.
+fn turn(u: usize, v: usize, k: u8) -> Answer {
+    both_on(wider(wider(Table::fresh())).turn(Slot(u), Slot(v), Quarter(k)))
+}
+
+// One call for turns and signs: on one slot and on two, 3 before 1 with the slots compared as they are given, and a zero table.
+fn turns() {
+    show(b"turn 0 0 by 3", turn(0, 0, 3));
+    show(b"turn 0 1 by 2", turn(0, 1, 2));
+    show(b"turn 0 1 by 0", turn(0, 1, 0));
+    show(b"turn 0 2 by 0, slot 2 free", turn(0, 2, 0));
+    show(b"turn 70 70 by 1", turn(70, 70, 1));
+    show(b"turn 0 70 by 1", turn(0, 70, 1));
+    show(b"turn 0 1 by 3", turn(0, 1, 3));
+    show(b"turn 0 0 by 4", turn(0, 0, 4));
+    let z = wider(wider(Table::fresh())).tie(0, 1);
+    show(
+        b"zero table, turn 0 1 by 2",
+        both_on(z.table.turn(Slot(0), Slot(1), Quarter(2))),
+    );
+}
+
 fn main() {
     one_wire();
     editions();
@@ -418,4 +450,5 @@ fn main() {
     refusals();
     spreads();
     rules();
+    turns();
 }
