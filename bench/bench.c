@@ -30,7 +30,8 @@ typedef uint8_t amplitudes_of(uint8_t width, uint32_t input, const uint32_t *out
 static uint8_t proved_amplitude(uint8_t width, uint32_t input, uint32_t output, const uint8_t *gates,
                                 size_t gates_length, struct amount *result)
 {
-    return topazfern_amplitude(width, input, output, gates, gates_length, &result->zero, &result->power, &result->phase);
+    // the other sides know the gates of edition 1
+    return topazfern_amplitude(1, width, input, output, gates, gates_length, &result->zero, &result->power, &result->phase);
 }
 
 // The library has no call for several outputs: each asks for the whole circuit again.

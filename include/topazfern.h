@@ -40,9 +40,10 @@ enum {
 /* The longest listing. */
 #define TOPAZFERN_LISTING_MAX 312
 
-/* The amplitude of a circuit: three bytes for each gate, bit i of a string is wire i. Refuses 11, 6, 8, then gate by gate 7, 6, 3 or 2. */
-uint8_t topazfern_amplitude(uint8_t width, uint32_t input, uint32_t output, const uint8_t *gates, size_t gates_length,
-                            uint8_t *zero, int32_t *power, uint8_t *phase);
+/* The amplitude of a circuit: three bytes for each gate, bit i of a string is wire i. In edition 1 code 7 is H S H, in edition 2 the
+ * rotation with rows (1, -i) and (-i, 1) over the square root of two. Refuses 9, 11, 6, 8, then gate by gate 7, 6, 3 or 2. */
+uint8_t topazfern_amplitude(uint8_t edition, uint8_t width, uint32_t input, uint32_t output, const uint8_t *gates,
+                            size_t gates_length, uint8_t *zero, int32_t *power, uint8_t *phase);
 
 /* The listing of a book at the front of text. Answers its length, at most 312; bytes beyond text_length are dropped. A refused book has a listing too. */
 size_t topazfern_listing(const uint8_t *book, size_t book_length, uint8_t *text, size_t text_length);

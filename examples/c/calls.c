@@ -17,18 +17,26 @@ static void show(const char *name, uint8_t refused, uint8_t zero, int32_t power,
 
 /* H on wire 0, then CX from wire 0 to wire 1. */
 static const uint8_t bell[] = {1, 0, 0, 17, 0, 1};
+/* Code 7 on wire 0: from 0 to 0 an eighth turn apart in the two editions. */
+static const uint8_t seven[] = {7, 0, 0};
 
 static void amplitudes(void)
 {
     uint8_t zero, phase, refused;
     int32_t power;
 
-    refused = topazfern_amplitude(2, 0, 3, bell, sizeof bell, &zero, &power, &phase);
+    refused = topazfern_amplitude(1, 2, 0, 3, bell, sizeof bell, &zero, &power, &phase);
     show("00 to 11", refused, zero, power, phase);
-    refused = topazfern_amplitude(2, 0, 1, bell, sizeof bell, &zero, &power, &phase);
+    refused = topazfern_amplitude(1, 2, 0, 1, bell, sizeof bell, &zero, &power, &phase);
     show("00 to 01", refused, zero, power, phase);
-    refused = topazfern_amplitude(1, 0, 0, bell, sizeof bell, &zero, &power, &phase);
+    refused = topazfern_amplitude(1, 1, 0, 0, bell, sizeof bell, &zero, &power, &phase);
     show("on one wire", refused, zero, power, phase);
+    refused = topazfern_amplitude(1, 1, 0, 0, seven, sizeof seven, &zero, &power, &phase);
+    show("code 7 in edition 1", refused, zero, power, phase);
+    refused = topazfern_amplitude(2, 1, 0, 0, seven, sizeof seven, &zero, &power, &phase);
+    show("code 7 in edition 2", refused, zero, power, phase);
+    refused = topazfern_amplitude(3, 1, 0, 0, seven, sizeof seven, &zero, &power, &phase);
+    show("code 7 in edition 3", refused, zero, power, phase);
 }
 
 /* Two slots tied to differ, slot 0 turned by a quarter: c = 2 and a_1 = 3. */

@@ -24,12 +24,15 @@ static void amounts(void)
     int32_t power = -7;
     size_t live = 77, ties = 78;
 
-    expect("gate bytes not in threes", topazfern_amplitude(1, 0, 0, sound, 2, &zero, &power, &phase) == 11);
-    expect("width 0", topazfern_amplitude(0, 0, 0, sound, 0, &zero, &power, &phase) == 6);
-    expect("width 32", topazfern_amplitude(32, 0, 0, sound, 0, &zero, &power, &phase) == 6);
-    expect("input beyond the width", topazfern_amplitude(1, 2, 0, sound, 0, &zero, &power, &phase) == 8);
-    expect("output beyond the width", topazfern_amplitude(31, 0, 0x80000000u, sound, 0, &zero, &power, &phase) == 8);
-    expect("code 0", topazfern_amplitude(1, 0, 0, sound, 3, &zero, &power, &phase) == 7);
+    expect("edition 0 before gate bytes not in threes", topazfern_amplitude(0, 1, 0, 0, sound, 2, &zero, &power, &phase) == 9);
+    expect("edition 3 before width 0", topazfern_amplitude(3, 0, 0, 0, sound, 0, &zero, &power, &phase) == 9);
+    expect("gate bytes not in threes", topazfern_amplitude(1, 1, 0, 0, sound, 2, &zero, &power, &phase) == 11);
+    expect("width 0", topazfern_amplitude(1, 0, 0, 0, sound, 0, &zero, &power, &phase) == 6);
+    expect("width 32", topazfern_amplitude(1, 32, 0, 0, sound, 0, &zero, &power, &phase) == 6);
+    expect("input beyond the width", topazfern_amplitude(1, 1, 2, 0, sound, 0, &zero, &power, &phase) == 8);
+    expect("output beyond the width", topazfern_amplitude(1, 31, 0, 0x80000000u, sound, 0, &zero, &power, &phase) == 8);
+    expect("code 0", topazfern_amplitude(1, 1, 0, 0, sound, 3, &zero, &power, &phase) == 7);
+    expect("code 0 in edition 2", topazfern_amplitude(2, 1, 0, 0, sound, 3, &zero, &power, &phase) == 7);
     expect("a body too short", topazfern_entry(sound, 13, 1, 0, &zero, &power, &phase) == 11);
     expect("an empty tie", topazfern_entry(empty_tie, sizeof empty_tie, 1, 0, &zero, &power, &phase) == 12);
     expect("a bit that is not live", topazfern_entry(sound, sizeof sound, 1, 2, &zero, &power, &phase) == 1);

@@ -10,7 +10,7 @@ use Rattle.exact.specs.Refusal.{accepted, badBody, notNormal}
 use Rattle.fields.specs.Bytes.{number}
 use Rattle.gates.specs.Circuit.{circuitNumber}
 use Rattle.state.specs.Normal.{Normal}
-use Rattle.contents.specs.Contents.{countOf, kindOf, widthOf, lengthOf, startOf, contentsNumber}
+use Rattle.contents.specs.Contents.{editionOf, countOf, kindOf, widthOf, lengthOf, startOf, contentsNumber}
 use Rattle.body_bytes.specs.Body.{bodyFault}
 use Rattle.body_read.specs.Table.{tableOf}
 
@@ -29,9 +29,9 @@ outputOf bs = number 4 bs 4
 abbrev pub gatesOf : List ℕ → List ℕ
 gatesOf bs = drop 8 bs
 
--- 11: "body length wrong": no room for the two strings; "Circuits: 11, 6, 8, gates in order."
-unfoldable pub circuitBodyNumber : ℕ → List ℕ → ℕ
-circuitBodyNumber n bs = cond (ltb (length bs) 8) badBody (circuitNumber n (inputOf bs) (outputOf bs) (gatesOf bs))
+-- 11: "body length wrong": no room for the two strings; "Circuits: 11, 6, 8, gates in order."; e is the edition of the book
+unfoldable pub circuitBodyNumber : ℕ → ℕ → List ℕ → ℕ
+circuitBodyNumber e n bs = cond (ltb (length bs) 8) badBody (circuitNumber e n (inputOf bs) (outputOf bs) (gatesOf bs))
 
 -- ---- a table's body
 -- k is the number of a table's body of width n. "Table body: 11 before 12."
@@ -46,7 +46,7 @@ pub record TableNumber (n : ℕ) (bs : List ℕ) (k : ℕ) : Type 0 where
 -- ---- the bodies and the book
 -- k is the number of body j, 0 where it is not refused. "kind (1 circuit, 2 table)"
 pub record BodyNumber (bs : List ℕ) (j k : ℕ) : Type 0 where
-  pub circuit : kindOf bs j ≡ 1 → k ≡ circuitBodyNumber (widthOf bs j) (bytesOf bs j)
+  pub circuit : kindOf bs j ≡ 1 → k ≡ circuitBodyNumber (editionOf bs) (widthOf bs j) (bytesOf bs j)
   pub table : kindOf bs j ≡ 2 → TableNumber (widthOf bs j) (bytesOf bs j) k
 
 -- none of the first n bodies is refused

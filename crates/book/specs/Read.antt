@@ -12,7 +12,7 @@ use Rattle.state.specs.Entry.{freshTable}
 use Rattle.state.specs.Normal.{Normal}
 use Rattle.state.specs.declared.State.{State}
 use Rattle.circuit.specs.Amplitude.{Amplitude}
-use Rattle.contents.specs.Contents.{countOf, kindOf, widthOf, contentsNumber}
+use Rattle.contents.specs.Contents.{editionOf, countOf, kindOf, widthOf, contentsNumber}
 use Rattle.body_bytes.specs.Body.{bodyFault}
 use Rattle.body_read.specs.Table.{tableOf}
 use Rattle.book.specs.Book.{bytesOf, inputOf, outputOf, gatesOf, circuitBodyNumber, BookNumber}
@@ -47,11 +47,11 @@ abbrev pub tableBody : State → Body
 tableBody t = body Whole t
 
 -- ---- a body on its own
--- what a circuit's body of width n answers
-pub record CircuitAnswer (n : ℕ) (bs : List ℕ) (r : Body) : Type 0 where
-  pub refused : circuitBodyNumber n bs ≢ accepted → r ≡ refusal (circuitBodyNumber n bs)
-  pub given : circuitBodyNumber n bs ≡ accepted → r ≡ circuitBody (saidAmount (r .said))
-  pub value : circuitBodyNumber n bs ≡ accepted → Amplitude n (inputOf bs) (outputOf bs) (gatesOf bs) (Is (saidAmount (r .said)))
+-- what a circuit's body of width n answers in a book of edition e
+pub record CircuitAnswer (e n : ℕ) (bs : List ℕ) (r : Body) : Type 0 where
+  pub refused : circuitBodyNumber e n bs ≢ accepted → r ≡ refusal (circuitBodyNumber e n bs)
+  pub given : circuitBodyNumber e n bs ≡ accepted → r ≡ circuitBody (saidAmount (r .said))
+  pub value : circuitBodyNumber e n bs ≡ accepted → Amplitude e n (inputOf bs) (outputOf bs) (gatesOf bs) (Is (saidAmount (r .said)))
 
 -- what a table's body of width n answers
 pub record TableAnswer (n : ℕ) (bs : List ℕ) (r : Body) : Type 0 where
@@ -61,8 +61,8 @@ pub record TableAnswer (n : ℕ) (bs : List ℕ) (r : Body) : Type 0 where
   pub normal : saidNumber (r .said) ≡ accepted → Normal (tableOf n bs)
 
 -- "kind (1 circuit, 2 table)"
-pub record BodyAnswer (kind n : ℕ) (bs : List ℕ) (r : Body) : Type 0 where
-  pub circuit : kind ≡ 1 → CircuitAnswer n bs r
+pub record BodyAnswer (e kind n : ℕ) (bs : List ℕ) (r : Body) : Type 0 where
+  pub circuit : kind ≡ 1 → CircuitAnswer e n bs r
   pub table : kind ≡ 2 → TableAnswer n bs r
 
 -- ---- a body of a book
@@ -71,7 +71,7 @@ pub record BodyAt (bs : List ℕ) (j : ℕ) (r : Body) : Type 0 where
   pub refused : contentsNumber bs ≢ accepted → r ≡ refusal (contentsNumber bs)
   -- 14: "no body of that number"
   pub beyond : contentsNumber bs ≡ accepted → countOf bs ≤ j → r ≡ refusal noBody
-  pub answer : contentsNumber bs ≡ accepted → j < countOf bs → BodyAnswer (kindOf bs j) (widthOf bs j) (bytesOf bs j) r
+  pub answer : contentsNumber bs ≡ accepted → j < countOf bs → BodyAnswer (editionOf bs) (kindOf bs j) (widthOf bs j) (bytesOf bs j) r
 
 -- r is what reading body j answers. "the whole book is tested before any body is answered": "book refusals, then 14"
 pub record ReadsBody (bs : List ℕ) (j : ℕ) (r : Body) : Type 0 where
@@ -80,4 +80,4 @@ pub record ReadsBody (bs : List ℕ) (j : ℕ) (r : Body) : Type 0 where
   pub refused : number ≢ accepted → r ≡ refusal number
   -- 14: "no body of that number"
   pub beyond : number ≡ accepted → countOf bs ≤ j → r ≡ refusal noBody
-  pub answer : number ≡ accepted → j < countOf bs → BodyAnswer (kindOf bs j) (widthOf bs j) (bytesOf bs j) r
+  pub answer : number ≡ accepted → j < countOf bs → BodyAnswer (editionOf bs) (kindOf bs j) (widthOf bs j) (bytesOf bs j) r

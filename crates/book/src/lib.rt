@@ -1,7 +1,7 @@
 // A whole book tested, and its bodies read.
 ghost use mathlib.Core.Path.{_≡_};
 ghost use Prim.Native.Nat.{_<_};
-ghost use Rattle.contents.specs.Contents.{countOf, kindOf, widthOf, contentsNumber};
+ghost use Rattle.contents.specs.Contents.{editionOf, countOf, kindOf, widthOf, contentsNumber};
 ghost use Rattle.book.specs.Book.{bytesOf, circuitBodyNumber, TableNumber, BodyNumber, BookNumber};
 ghost use Rattle.book.specs.Inner.Said.{saidOf};
 ghost use Rattle.book.specs.Read.{refusal, CircuitAnswer, TableAnswer, BodyAnswer, BodyAt, ReadsBody};
@@ -42,16 +42,16 @@ fn refused(k: u8) -> Body
     }
 }
 
-// What a circuit's body of this width answers.
-fn circuit_body(part: &[u8], width: u8) -> Body
-    ensures { λ r. ⌜ CircuitAnswer width (now (part .entry)) r ⌝ }
+// What a circuit's body of this width answers in a book of this edition.
+fn circuit_body(edition: u8, part: &[u8], width: u8) -> Body
+    ensures { λ r. ⌜ CircuitAnswer edition width (now (part .entry)) r ⌝ }
 {
     if part.len() < 8 {
         return refused(exact::BAD_BODY);
     }
     let input = fields::read_u32(part, 0);
     let output = fields::read_u32(part, 4);
-    let a = circuit::amplitude(width, input, output, &part[8..]);
+    let a = circuit::amplitude(edition, width, input, output, &part[8..]);
     Body {
         said: said_of(a),
         table: state_steps::fresh(),
@@ -80,27 +80,28 @@ fn table_body(part: &[u8], width: u8) -> Body
 // What body j of a book with good contents answers.
 fn body_in(book: &[u8], j: usize) -> Body
     requires { ⌜ (contentsNumber (now book) ≡ 0) × (j < countOf (now book)) ⌝ }
-    ensures { λ r. ⌜ BodyAnswer (kindOf (now (book .entry)) j) (widthOf (now (book .entry)) j) (bytesOf (now (book .entry)) j) r ⌝ }
+    ensures { λ r. ⌜ BodyAnswer (editionOf (now (book .entry))) (kindOf (now (book .entry)) j) (widthOf (now (book .entry)) j) (bytesOf (now (book .entry)) j) r ⌝ }
 {
+    let edition = contents::edition(book);
     let e = contents::entry_at(book, j);
     let from = e.start;
     let to = from + e.length;
     if e.kind == 1 {
-        return circuit_body(&book[from..to], e.width);
+        return circuit_body(edition, &book[from..to], e.width);
     }
     table_body(&book[from..to], e.width)
 }
 
-// The number that refuses a circuit's body of this width, 0 for none: its amplitude is not computed.
-fn circuit_fault(part: &[u8], width: u8) -> u8
-    ensures { λ r. ⌜ r ≡ circuitBodyNumber width (now (part .entry)) ⌝ }
+// The number that refuses a circuit's body of this width in a book of this edition, 0 for none: its amplitude is not computed.
+fn circuit_fault(edition: u8, part: &[u8], width: u8) -> u8
+    ensures { λ r. ⌜ r ≡ circuitBodyNumber edition width (now (part .entry)) ⌝ }
 {
     if part.len() < 8 {
         return exact::BAD_BODY;
     }
     let input = fields::read_u32(part, 0);
     let output = fields::read_u32(part, 4);
-    circuit::number(width, input, output, &part[8..])
+    circuit::number(edition, width, input, output, &part[8..])
 }
 
 // The number that refuses a table's body of this width, 0 for none.
@@ -116,11 +117,12 @@ fn fault_at(book: &[u8], j: usize) -> u8
     requires { ⌜ (contentsNumber (now book) ≡ 0) × (j < countOf (now book)) ⌝ }
     ensures { λ r. ⌜ BodyNumber (now (book .entry)) j r ⌝ }
 {
+    let edition = contents::edition(book);
     let e = contents::entry_at(book, j);
     let from = e.start;
     let to = from + e.length;
     if e.kind == 1 {
-        return circuit_fault(&book[from..to], e.width);
+        return circuit_fault(edition, &book[from..to], e.width);
     }
     table_fault(&book[from..to], e.width)
 }

@@ -15,10 +15,10 @@ use Rattle.book.specs.Book.{bytesOf, circuitBodyNumber, TableNumber, BookNumber
 unfoldable pub laidBook : ℕ → List ℕ → List ℕ → List ℕ → (ℕ → List ℕ) → List ℕ
 laidBook ed ks ws ls bodies = laidBytes ed ks ws ls ++ joined (length ks) bodies
 
--- body j is as long as the lists say, and on its own it is not refused. "kind (1 circuit, 2 table)"
-pub record Fits (ks ws ls : List ℕ) (j : ℕ) (body : List ℕ) : Type 0 where
+-- body j is as long as the lists say, and on its own it is not refused in a book of this edition. "kind (1 circuit, 2 table)"
+pub record Fits (ed : ℕ) (ks ws ls : List ℕ) (j : ℕ) (body : List ℕ) : Type 0 where
   pub long : length body ≡ getD ls j 0
-  pub circuit : getD ks j 0 ≡ 1 → circuitBodyNumber (getD ws j 0) body ≡ accepted
+  pub circuit : getD ks j 0 ≡ 1 → circuitBodyNumber ed (getD ws j 0) body ≡ accepted
   pub table : getD ks j 0 ≡ 2 → TableNumber (getD ws j 0) body accepted
 
 -- bs is a book that is not refused, of this edition, these lists and these bodies

@@ -15,17 +15,17 @@ use Rattle.exact.specs.Sum.{total}
 use Rattle.bits.specs.Mask.{bit}
 use Rattle.gates.specs.Matrix.{IsAmplitude}
 use Rattle.gates.specs.Circuit.{gateList, gateCount}
-use Rattle.contents.specs.Contents.{countOf, kindOf, widthOf, contentsNumber}
+use Rattle.contents.specs.Contents.{editionOf, countOf, kindOf, widthOf, contentsNumber}
 use Rattle.body_bytes.specs.Body.{markOf, phaseOf, powerOf, turnOf, rowOf, tieCount, maskOf, sideOf, bodyFault}
 use Rattle.book.specs.Book.{bytesOf, inputOf, outputOf, gatesOf, circuitBodyNumber}
 use Rattle.lines.specs.Lines.{bookLine, circuitLine, tableLine, refusedLine}
 
 -- ---- a circuit's line
--- "number, `C`, power, phase": of an amount whose exact value is "the entry of the product, row output, column input"
-pub record CircuitLine (n : ℕ) (bs : List ℕ) (j : ℕ) (line : List ℕ) : Type 0 where
+-- "number, `C`, power, phase": of an amount whose exact value is "the entry of the product, row output, column input", in the edition e of the book
+pub record CircuitLine (e n : ℕ) (bs : List ℕ) (j : ℕ) (line : List ℕ) : Type 0 where
   pub amount : Amount
   pub small : Small amount
-  pub value : IsAmplitude n (gateList n (gatesOf bs) (gateCount (gatesOf bs))) (inputOf bs) (outputOf bs) amount
+  pub value : IsAmplitude n (gateList e n (gatesOf bs) (gateCount (gatesOf bs))) (inputOf bs) (outputOf bs) amount
   pub text : line ≡ circuitLine j amount
 
 -- ---- a table's line, and what the table's bytes mean
@@ -79,7 +79,7 @@ pub record TableRefusal (n : ℕ) (bs : List ℕ) (k : ℕ) : Type 0 where
 
 -- k is the number of body j. "Circuits: 11, 6, 8, gates in order."
 pub record BodyRefusal (bs : List ℕ) (j k : ℕ) : Type 0 where
-  pub circuit : kindOf bs j ≡ 1 → k ≡ circuitBodyNumber (widthOf bs j) (bytesOf bs j)
+  pub circuit : kindOf bs j ≡ 1 → k ≡ circuitBodyNumber (editionOf bs) (widthOf bs j) (bytesOf bs j)
   pub table : kindOf bs j ≡ 2 → TableRefusal (widthOf bs j) (bytesOf bs j) k
 
 -- the first of n bodies that is refused is refused by k; 0 where none is
@@ -96,7 +96,7 @@ pub record BookRefusal (bs : List ℕ) (k : ℕ) : Type 0 where
 -- ---- the book
 -- line j of a book that is not refused. "kind (1 circuit, 2 table)"; "number, `T`, live, ties, power, phase"
 pub record LineOf (bs : List ℕ) (j : ℕ) (line : List ℕ) : Type 0 where
-  pub circuit : kindOf bs j ≡ 1 → CircuitLine (widthOf bs j) (bytesOf bs j) j line
+  pub circuit : kindOf bs j ≡ 1 → CircuitLine (editionOf bs) (widthOf bs j) (bytesOf bs j) j line
   pub table : kindOf bs j ≡ 2 → line ≡ tableLine j (widthOf bs j) (tieCount (widthOf bs j) (bytesOf bs j)) (stated (bytesOf bs j))
 
 -- the first n lines

@@ -59,10 +59,10 @@ pub record AnswerTold (a : Answer) (before : Told) (n : ℕ) (after : Told) : Ty
   pub kept : (k : ℕ) → a ≡ NotGiven k → after ≡ before
   pub given : (m : Amount) → a ≡ Is m → after ≡ told m
 
--- the amplitude of a circuit
-pub record AmplitudeTold (width input output : ℕ) (bs : List ℕ) (before : Told) (n : ℕ) (after : Told) : Type 0 where
+-- the amplitude of a circuit of an edition
+pub record AmplitudeTold (edition width input output : ℕ) (bs : List ℕ) (before : Told) (n : ℕ) (after : Told) : Type 0 where
   pub answer : Answer
-  pub is : Amplitude width input output bs answer
+  pub is : Amplitude edition width input output bs answer
   pub tells : AnswerTold answer before n after
 
 -- an entry of a table

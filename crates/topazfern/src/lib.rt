@@ -40,9 +40,10 @@ fn answer(a: Answer, zero: &mut u8, power: &mut i32, phase: &mut u8) -> u8
     }
 }
 
-// The amplitude of a circuit.
+// The amplitude of a circuit of an edition.
 #[no_mangle]
 pub extern "C" fn topazfern_amplitude(
+    edition: u8,
     width: u8,
     input: u32,
     output: u32,
@@ -51,9 +52,9 @@ pub extern "C" fn topazfern_amplitude(
     power: &mut i32,
     phase: &mut u8,
 ) -> u8
-    ensures { λ n. ⌜ AmplitudeTold width input output (now (gates .entry)) (behind (now (zero .entry)) (now (power .entry)) (now (phase .entry))) n (behind (now (zero .exit)) (now (power .exit)) (now (phase .exit))) ⌝ }
+    ensures { λ n. ⌜ AmplitudeTold edition width input output (now (gates .entry)) (behind (now (zero .entry)) (now (power .entry)) (now (phase .entry))) n (behind (now (zero .exit)) (now (power .exit)) (now (phase .exit))) ⌝ }
 {
-    let a = circuit::amplitude(width, input, output, gates);
+    let a = circuit::amplitude(edition, width, input, output, gates);
     answer(a, zero, power, phase)
 }
 

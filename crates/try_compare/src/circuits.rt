@@ -32,11 +32,11 @@ fn code(w: u64, width: u8) -> u8 {
     }
 }
 
-// How many factors 1/√2 a gate has: H has one, SX = H·S·H two.
-pub(crate) fn roots(code: u8) -> u64 {
+// How many factors 1/√2 a gate has: H has one, code 7 two in edition 1, where it is H·S·H, and one in edition 2.
+pub(crate) fn roots(edition: u8, code: u8) -> u64 {
     match code {
         1 => 1,
-        7 => 2,
+        7 => if edition == 2 { 1 } else { 2 },
         _ => 0,
     }
 }
@@ -46,7 +46,7 @@ fn limited(code: u8, count: u64) -> u8 {
     if count < 99 {
         return code;
     }
-    if roots(code) == 0 { code } else { 2 }
+    if roots(1, code) == 0 { code } else { 2 }
 }
 
 // A wire below the width.
@@ -92,7 +92,7 @@ pub(crate) fn gates(stream: u64, width: u8) -> [u8; 900] {
         bytes[3 * j] = g.code;
         bytes[3 * j + 1] = g.wire;
         bytes[3 * j + 2] = g.second;
-        count = std::num::wrapping_add_u64(count, roots(g.code));
+        count = std::num::wrapping_add_u64(count, roots(1, g.code));
         j += 1;
     }
     bytes

@@ -1,4 +1,4 @@
-// Amplitudes of pseudo-random circuits compared with the product of the gates' matrices, at every output string. The expected numbers are those of tests/compare.py.
+// Amplitudes of pseudo-random circuits compared with the product of the gates' matrices, at every output string, in both editions. The expected numbers are those of tests/try_compare.py.
 mod circuits;
 mod plain;
 mod tally;
@@ -25,12 +25,12 @@ fn length(number: u64) -> usize
 }
 
 // The number of factors 1/√2 in the gates.
-fn roots(gates: &[u8]) -> u64 {
+fn roots(edition: u8, gates: &[u8]) -> u64 {
     let count = gates.len() / 3;
     let mut sum: u64 = 0;
     let mut j: usize = 0;
     while j < count {
-        sum = std::num::wrapping_add_u64(sum, circuits::roots(gates[3 * j]));
+        sum = std::num::wrapping_add_u64(sum, circuits::roots(edition, gates[3 * j]));
         j += 1;
     }
     sum
@@ -59,38 +59,39 @@ fn is_answer(v: Value, n: u64, a: Answer) -> bool {
     }
 }
 
-// The circuit from `input` to every output.
-fn outputs(width: u8, input: u64, gates: &[u8]) -> Tally {
-    let product = plain::run(gates, input);
-    let n = roots(gates);
+// The circuit of an edition from `input` to every output.
+fn outputs(edition: u8, width: u8, input: u64, gates: &[u8]) -> Tally {
+    let product = plain::run(edition, gates, input);
+    let n = roots(edition, gates);
     let from = (input % 64) as u32;
     let strings = plain::place(width) % 65;
     let mut t = Tally::none();
     let mut q: u64 = 0;
     while q < strings {
         let v = product.at(q);
-        let a = circuit::amplitude(width, from, q as u32, gates);
+        let a = circuit::amplitude(edition, width, from, q as u32, gates);
         t = t.plus(Tally::one(is_answer(v, n, a), v.same(Value::zero())));
         q += 1;
     }
     t
 }
 
-// Circuit `number` of a width, from an input drawn too.
-fn trial(width: u8, number: u64) -> Tally {
+// Circuit `number` of a width in an edition, from an input drawn too.
+fn trial(edition: u8, width: u8, number: u64) -> Tally {
     let stream = number ^ ((width as u64) << 32);
     let gates = circuits::gates(stream, width);
     let input = try_draw::word(stream, 4096) & std::num::wrapping_sub_u64(plain::place(width), 1);
     let end = 3 * length(number);
-    outputs(width, input, &gates[..end])
+    outputs(edition, width, input, &gates[..end])
 }
 
-// The circuits of a width, and a line.
+// The circuits of a width in both editions, and a line.
 fn run(width: u8) -> Tally {
     let mut t = Tally::none();
     let mut number: u64 = 0;
     while number < CIRCUITS {
-        t = t.plus(trial(width, number));
+        t = t.plus(trial(1, width, number));
+        t = t.plus(trial(2, width, number));
         number += 1;
     }
     io::write_all(1, b"width ");
@@ -100,7 +101,7 @@ fn run(width: u8) -> Tally {
     t
 }
 
-// The widths 1 to 6, and all together: 104 · 126 = 13104 amplitudes.
+// The widths 1 to 6, and all together: 2 · 104 · 126 = 26208 amplitudes.
 fn main() {
     let small = run(1).plus(run(2)).plus(run(3));
     let all = small.plus(run(4)).plus(run(5)).plus(run(6));

@@ -127,62 +127,105 @@ fn half() {
 // "H on 0, CX 0 1": the four outputs of 00.
 fn pair() {
     let gates = b"\x01\x00\x00\x11\x00\x01";
-    show(b"H 0, CX 0 1: 00 to 00", circuit::amplitude(2, 0, 0, gates));
-    show(b"H 0, CX 0 1: 00 to 01", circuit::amplitude(2, 0, 1, gates));
-    show(b"H 0, CX 0 1: 00 to 10", circuit::amplitude(2, 0, 2, gates));
-    show(b"H 0, CX 0 1: 00 to 11", circuit::amplitude(2, 0, 3, gates));
+    show(
+        b"H 0, CX 0 1: 00 to 00",
+        circuit::amplitude(1, 2, 0, 0, gates),
+    );
+    show(
+        b"H 0, CX 0 1: 00 to 01",
+        circuit::amplitude(1, 2, 0, 1, gates),
+    );
+    show(
+        b"H 0, CX 0 1: 00 to 10",
+        circuit::amplitude(1, 2, 0, 2, gates),
+    );
+    show(
+        b"H 0, CX 0 1: 00 to 11",
+        circuit::amplitude(1, 2, 0, 3, gates),
+    );
 }
 
 // The circuits of one wire.
 fn one_wire() {
-    show(b"no gates: 0 to 0", circuit::amplitude(1, 0, 0, b""));
-    show(b"no gates: 0 to 1", circuit::amplitude(1, 0, 1, b""));
-    show(b"H: 0 to 1", circuit::amplitude(1, 0, 1, b"\x01\x00\x00"));
+    show(b"no gates: 0 to 0", circuit::amplitude(1, 1, 0, 0, b""));
+    show(b"no gates: 0 to 1", circuit::amplitude(1, 1, 0, 1, b""));
+    show(
+        b"H: 0 to 1",
+        circuit::amplitude(1, 1, 0, 1, b"\x01\x00\x00"),
+    );
     show(
         b"H, H: 0 to 1",
-        circuit::amplitude(1, 0, 1, b"\x01\x00\x00\x01\x00\x00"),
+        circuit::amplitude(1, 1, 0, 1, b"\x01\x00\x00\x01\x00\x00"),
     );
     show(
         b"H, S, H: 0 to 0",
-        circuit::amplitude(1, 0, 0, b"\x01\x00\x00\x02\x00\x00\x01\x00\x00"),
+        circuit::amplitude(1, 1, 0, 0, b"\x01\x00\x00\x02\x00\x00\x01\x00\x00"),
     );
     let thrice = b"\x01\x00\x00\x02\x00\x00\x01\x00\x00\x02\x00\x00\x01\x00\x00\x02\x00\x00";
     show(
         b"H, S three times: 0 to 0",
-        circuit::amplitude(1, 0, 0, thrice),
+        circuit::amplitude(1, 1, 0, 0, thrice),
     );
-    show(b"Y: 0 to 1", circuit::amplitude(1, 0, 1, b"\x06\x00\x00"));
-    show(b"Y: 1 to 0", circuit::amplitude(1, 1, 0, b"\x06\x00\x00"));
+    show(
+        b"Y: 0 to 1",
+        circuit::amplitude(1, 1, 0, 1, b"\x06\x00\x00"),
+    );
+    show(
+        b"Y: 1 to 0",
+        circuit::amplitude(1, 1, 1, 0, b"\x06\x00\x00"),
+    );
+}
+
+// Code 7 in both editions.
+fn editions() {
+    show(
+        b"SX, edition 1: 0 to 0",
+        circuit::amplitude(1, 1, 0, 0, b"\x07\x00\x00"),
+    );
+    show(
+        b"SX, edition 1: 0 to 1",
+        circuit::amplitude(1, 1, 0, 1, b"\x07\x00\x00"),
+    );
+    show(
+        b"SX, edition 2: 0 to 0",
+        circuit::amplitude(2, 1, 0, 0, b"\x07\x00\x00"),
+    );
+    show(
+        b"SX, edition 2: 0 to 1",
+        circuit::amplitude(2, 1, 0, 1, b"\x07\x00\x00"),
+    );
+    show(b"edition 0", circuit::amplitude(0, 0, 0, 0, b"\x01\x00"));
+    show(b"edition 3", circuit::amplitude(3, 0, 0, 0, b"\x01\x00"));
 }
 
 // A circuit for each number that refuses one.
 fn refusals() {
     show(
         b"two bytes of gates",
-        circuit::amplitude(1, 0, 0, b"\x01\x00"),
+        circuit::amplitude(1, 1, 0, 0, b"\x01\x00"),
     );
-    show(b"width 0", circuit::amplitude(0, 0, 0, b""));
-    show(b"width 32", circuit::amplitude(32, 0, 0, b""));
+    show(b"width 0", circuit::amplitude(1, 0, 0, 0, b""));
+    show(b"width 32", circuit::amplitude(1, 32, 0, 0, b""));
     show(
         b"an input bit at the width",
-        circuit::amplitude(1, 2, 0, b""),
+        circuit::amplitude(1, 1, 2, 0, b""),
     );
     show(
         b"an output bit at the width",
-        circuit::amplitude(31, 0, 2147483648, b""),
+        circuit::amplitude(1, 31, 0, 2147483648, b""),
     );
-    show(b"code 8", circuit::amplitude(1, 0, 0, b"\x08\x00\x00"));
+    show(b"code 8", circuit::amplitude(1, 1, 0, 0, b"\x08\x00\x00"));
     show(
         b"H on wire 1 of 1",
-        circuit::amplitude(1, 0, 0, b"\x01\x01\x00"),
+        circuit::amplitude(1, 1, 0, 0, b"\x01\x01\x00"),
     );
     show(
         b"H with a second byte",
-        circuit::amplitude(1, 0, 0, b"\x01\x00\x01"),
+        circuit::amplitude(1, 1, 0, 0, b"\x01\x00\x01"),
     );
     show(
         b"CZ on one wire twice",
-        circuit::amplitude(2, 0, 0, b"\x10\x01\x01"),
+        circuit::amplitude(1, 2, 0, 0, b"\x10\x01\x01"),
     );
 }
 
@@ -220,6 +263,7 @@ fn spreads() {
 
 fn main() {
     one_wire();
+    editions();
     pair();
     show(b"one bit, quarter 0, sum", one_bit(0, 0));
     show(b"one bit, quarter 1, sum", one_bit(0, 1));

@@ -8,7 +8,7 @@ use lib.ListN.{length, take, drop}
 use Rattle.exact.proofs.Laws.Sum.{split}
 use Rattle.bits.proofs.Laws.Bit.{same-or}
 use Rattle.contents.specs.declared.Entry.{Entry}
-use Rattle.contents.specs.Contents.{countOf, kindOf, widthOf, entryOf, contentsNumber}
+use Rattle.contents.specs.Contents.{editionOf, countOf, kindOf, widthOf, entryOf, contentsNumber}
 use Rattle.contents.proofs.Laws.Good.{good}
 use Rattle.book.specs.Book.{bytesOf, circuitBodyNumber, TableNumber, BodyNumber, Clear, BookNumber}
 use Rattle.book.specs.Read.{Body, CircuitAnswer, TableAnswer, BodyAnswer}
@@ -21,23 +21,24 @@ part-law bs j e is =
     ap (λ (k : ℕ). take k (drop (e .start) bs)) q ∙ ap (λ (x : Entry). take (x .length) (drop (x .start) bs)) is
 
 -- ---- a body by its kind
-pub answer-circuit : (kind n : ℕ) (bs : List ℕ) (r : Body) → kind ≡ 1 → CircuitAnswer n bs r → BodyAnswer kind n bs r
-answer-circuit kind n bs r k a = record { circuit = λ q. a; table = λ q. absurd (omega (arith, k, q)) }
+pub answer-circuit : (ed kind n : ℕ) (bs : List ℕ) (r : Body) → kind ≡ 1 → CircuitAnswer ed n bs r → BodyAnswer ed kind n bs r
+answer-circuit ed kind n bs r k a = record { circuit = λ q. a; table = λ q. absurd (omega (arith, k, q)) }
 
-pub answer-table : (kind n : ℕ) (bs : List ℕ) (r : Body) → kind ≢ 1 → TableAnswer n bs r → BodyAnswer kind n bs r
-answer-table kind n bs r k a = record { circuit = λ q. absurd (k q); table = λ q. a }
+pub answer-table : (ed kind n : ℕ) (bs : List ℕ) (r : Body) → kind ≢ 1 → TableAnswer n bs r → BodyAnswer ed kind n bs r
+answer-table ed kind n bs r k a = record { circuit = λ q. absurd (k q); table = λ q. a }
 
 -- the answer to the part of an entry, as the book's
-pub answer-at : (bs : List ℕ) (j : ℕ) (e : Entry) (r : Body) → e ≡ entryOf bs j → BodyAnswer (e .kind) (e .width) (take (e .start + e .length - e .start) (drop (e .start) bs)) r
-    → BodyAnswer (kindOf bs j) (widthOf bs j) (bytesOf bs j) r
-answer-at bs j e r is a =
-    subst (λ (x : Entry). BodyAnswer (x .kind) (x .width) (bytesOf bs j) r) is
-    (subst (λ (l : List ℕ). BodyAnswer (e .kind) (e .width) l r) (part-law bs j e is) a)
+pub answer-at : (bs : List ℕ) (j ed : ℕ) (e : Entry) (r : Body) → ed ≡ editionOf bs → e ≡ entryOf bs j → BodyAnswer ed (e .kind) (e .width) (take (e .start + e .length - e .start) (drop (e .start) bs)) r
+    → BodyAnswer (editionOf bs) (kindOf bs j) (widthOf bs j) (bytesOf bs j) r
+answer-at bs j ed e r states is a =
+    subst (λ (v : ℕ). BodyAnswer v (kindOf bs j) (widthOf bs j) (bytesOf bs j) r) states
+    (subst (λ (x : Entry). BodyAnswer ed (x .kind) (x .width) (bytesOf bs j) r) is
+    (subst (λ (l : List ℕ). BodyAnswer ed (e .kind) (e .width) l r) (part-law bs j e is) a))
 
 -- ---- the number of a body
-pub number-circuit : (bs : List ℕ) (j : ℕ) (e : Entry) (k : ℕ) → e ≡ entryOf bs j → e .kind ≡ 1 → k ≡ circuitBodyNumber (e .width) (take (e .start + e .length - e .start) (drop (e .start) bs)) → BodyNumber bs j k
-number-circuit bs j e k is one a = record {
-  circuit = λ c. a ∙ ap₂ circuitBodyNumber (ap (λ (x : Entry). x .width) is) (part-law bs j e is);
+pub number-circuit : (bs : List ℕ) (j ed : ℕ) (e : Entry) (k : ℕ) → ed ≡ editionOf bs → e ≡ entryOf bs j → e .kind ≡ 1 → k ≡ circuitBodyNumber ed (e .width) (take (e .start + e .length - e .start) (drop (e .start) bs)) → BodyNumber bs j k
+number-circuit bs j ed e k states is one a = record {
+  circuit = λ c. a ∙ ap₂ (circuitBodyNumber ed) (ap (λ (x : Entry). x .width) is) (part-law bs j e is) ∙ ap (λ (v : ℕ). circuitBodyNumber v (widthOf bs j) (bytesOf bs j)) states;
   table = λ c. absurd (let q : e .kind ≡ 2 = ap (λ (x : Entry). x .kind) is ∙ c in omega (arith, one, q));
 }
 

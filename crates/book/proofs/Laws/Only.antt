@@ -11,7 +11,7 @@ use Rattle.exact.proofs.Laws.Sum.{split}
 use Rattle.bits.proofs.Laws.Bit.{same-or}
 use Rattle.state.specs.Normal.{Normal}
 use Rattle.circuit.proofs.Laws.Only.{one-amplitude}
-use Rattle.contents.specs.Contents.{countOf, kindOf, widthOf, entryOf, contentsNumber}
+use Rattle.contents.specs.Contents.{editionOf, countOf, kindOf, widthOf, entryOf, contentsNumber}
 use Rattle.contents.proofs.Laws.Good.{good}
 use Rattle.body_bytes.specs.Body.{bodyFault}
 use Rattle.body_read.specs.Table.{tableOf}
@@ -41,12 +41,12 @@ module _ (n : ℕ) (bs : List ℕ) where
           (same-or (saidNumber (r .said)) 0)
 
   -- ---- a circuit's body
-  pub circuit-answer : (r s : Body) → CircuitAnswer n bs r → CircuitAnswer n bs s → r ≡ s
-  circuit-answer r s R S = ⊎-elim given (λ ne. R .refused ne ∙ sym (S .refused ne)) (same-or (circuitBodyNumber n bs) 0)
+  pub circuit-answer : (ed : ℕ) (r s : Body) → CircuitAnswer ed n bs r → CircuitAnswer ed n bs s → r ≡ s
+  circuit-answer ed r s R S = ⊎-elim given (λ ne. R .refused ne ∙ sym (S .refused ne)) (same-or (circuitBodyNumber ed n bs) 0)
     where
-      given : circuitBodyNumber n bs ≡ 0 → r ≡ s
+      given : circuitBodyNumber ed n bs ≡ 0 → r ≡ s
       given z =
-          let e = one-amplitude n (inputOf bs) (outputOf bs) (gatesOf bs) (Is (saidAmount (r .said))) (Is (saidAmount (s .said))) (R .value z) (S .value z) in
+          let e = one-amplitude ed n (inputOf bs) (outputOf bs) (gatesOf bs) (Is (saidAmount (r .said))) (Is (saidAmount (s .said))) (R .value z) (S .value z) in
           R .given z ∙ ap circuitBody (ap amountOf e) ∙ sym (S .given z)
 
 module _ (bs : List ℕ) where
@@ -81,10 +81,10 @@ module _ (bs : List ℕ) where
       ⊎-elim (λ z. bodies-only z k m (K .bodies z) (M .bodies z)) (λ ne. K .contents ne ∙ sym (M .contents ne)) (same-or (contentsNumber bs) 0)
 
   -- ---- what a body answers, where the contents are good
-  answer-only : contentsNumber bs ≡ 0 → (j : ℕ) → j < countOf bs → (r s : Body) → BodyAnswer (kindOf bs j) (widthOf bs j) (bytesOf bs j) r
-      → BodyAnswer (kindOf bs j) (widthOf bs j) (bytesOf bs j) s → r ≡ s
+  answer-only : contentsNumber bs ≡ 0 → (j : ℕ) → j < countOf bs → (r s : Body) → BodyAnswer (editionOf bs) (kindOf bs j) (widthOf bs j) (bytesOf bs j) r
+      → BodyAnswer (editionOf bs) (kindOf bs j) (widthOf bs j) (bytesOf bs j) s → r ≡ s
   answer-only z j h r s a b =
-      ⊎-elim (λ c. circuit-answer (widthOf bs j) (bytesOf bs j) r s (a .circuit c) (b .circuit c))
+      ⊎-elim (λ c. circuit-answer (widthOf bs j) (bytesOf bs j) (editionOf bs) r s (a .circuit c) (b .circuit c))
       (λ c. table-answer (widthOf bs j) (bytesOf bs j) r s (a .table c) (b .table c)) (good bs z .body j h (entryOf bs j) refl .kind)
 
   pub one-body-at : (j : ℕ) (r s : Body) → BodyAt bs j r → BodyAt bs j s → r ≡ s

@@ -4,7 +4,7 @@ use mathlib.Core.Logic.{_≢_}
 use mathlib.Core.Path.{_≡_, ap, sym, _∙_}
 use Prim.Native.Nat.{ℕ, _≤_, _<_}
 use native.Mathlib.Omega.{arith}
-use Rattle.contents.specs.Contents.{countOf, kindOf, widthOf, contentsNumber}
+use Rattle.contents.specs.Contents.{editionOf, countOf, kindOf, widthOf, contentsNumber}
 use Rattle.book.specs.Book.{bytesOf, BookNumber}
 use Rattle.book.specs.Read.{Body, refusal, BodyAnswer, BodyAt, ReadsBody}
 use Rattle.book.proofs.Laws.Number.{contents-good}
@@ -26,7 +26,7 @@ module _ (bs : List ℕ) (j : ℕ) (r : Body) where
       answer = λ y l. absurd (omega (arith, h, l));
     }
 
-    pub at-answer : j < countOf bs → BodyAnswer (kindOf bs j) (widthOf bs j) (bytesOf bs j) r → BodyAt bs j r
+    pub at-answer : j < countOf bs → BodyAnswer (editionOf bs) (kindOf bs j) (widthOf bs j) (bytesOf bs j) r → BodyAt bs j r
     at-answer h a = record {
       refused = λ ne. absurd (ne z);
       beyond = λ y l. absurd (omega (arith, h, l));

@@ -5,12 +5,15 @@ use Rattle.book.proofs.Laws.Number.{entry-within, answer-circuit, answe
 use Rattle.book.proofs.body_in.Statement.{statement}
 use Rattle.book.proofs.body_in.Tie as tie
 
+edition-requires : tie.Need-edition-requires
+edition-requires c κs = search needs
+
 entry-at-requires : tie.Need-entry-at-requires
 entry-at-requires c κs = search needs
 
 add-to : tie.Need-add-to
 add-to c =
-    let s = c .before .before .before in
+    let s = c .before .before .before .before in
     let w = entry-within (s .args .book .now) (s .args .j) (c .before .entry-at .result) (s .pre .0) (s .pre .1) (c .before .entry-at .ensures) in
     omega (arith, w .0, w .1)
 
@@ -22,7 +25,7 @@ part-circuit-body-start c = search needs
 
 part-circuit-body-end : tie.Need-part-circuit-body-end
 part-circuit-body-end c =
-    let s = c .before .before .before .before .before in
+    let s = c .before .before .before .before .before .before in
     let e = c .before .before .before .entry-at in
     entry-within (s .args .book .now) (s .args .j) (e .result) (s .pre .0) (s .pre .1) (e .ensures) .0
 
@@ -31,9 +34,10 @@ circuit-body-requires c κs = search needs
 
 returns : tie.Need-returns
 returns c =
-    let a = c .before .before .before .before .before .before .before .args in
+    let a = c .before .before .before .before .before .before .before .before .args in
+    let d = c .before .before .before .before .before .before .edition in
     let e = c .before .before .before .before .before .entry-at in
-    answer-at (a .book .now) (a .j) (e .result) (c .circuit-body .result) (e .ensures) (answer-circuit _ _ _ _ (c .before .before .if1 .taken) (c .circuit-body .ensures))
+    answer-at (a .book .now) (a .j) (d .result) (e .result) (c .circuit-body .result) (d .ensures) (e .ensures) (answer-circuit _ _ _ _ _ (c .before .before .if1 .taken) (c .circuit-body .ensures))
 
 sub-table-body : tie.Need-sub-table-body
 sub-table-body c = search needs
@@ -43,7 +47,7 @@ part-table-body-start c = search needs
 
 part-table-body-end : tie.Need-part-table-body-end
 part-table-body-end c =
-    let s = c .before .before .before .before .before in
+    let s = c .before .before .before .before .before .before in
     let e = c .before .before .before .entry-at in
     entry-within (s .args .book .now) (s .args .j) (e .result) (s .pre .0) (s .pre .1) (e .ensures) .0
 
@@ -52,14 +56,16 @@ table-body-requires c κs = search needs
 
 returns-2 : tie.Need-returns-2
 returns-2 c =
-    let a = c .before .before .before .before .before .before .before .args in
+    let a = c .before .before .before .before .before .before .before .before .args in
+    let d = c .before .before .before .before .before .before .edition in
     let e = c .before .before .before .before .before .entry-at in
-    answer-at (a .book .now) (a .j) (e .result) (c .table-body .result) (e .ensures) (answer-table _ _ _ _ (c .before .before .if1 .left) (c .table-body .ensures))
+    answer-at (a .book .now) (a .j) (d .result) (e .result) (c .table-body .result) (d .ensures) (e .ensures) (answer-table _ _ _ _ _ (c .before .before .if1 .left) (c .table-body .ensures))
 
 pub body-in-spec : {M : Type 1} → statement M
 body-in-spec =
     tie.close
     (tie.spec
+    edition-requires
     entry-at-requires
     add-to
     sub-circuit-body

@@ -11,7 +11,7 @@ refused-requires c κs = search needs
 returns : tie.Need-returns
 returns c =
     let a = c .before .before .before .args in
-    circuit-short (a .width) (a .part .now) (c .refused .result) (omega arith) (c .refused .ensures)
+    circuit-short (a .edition) (a .width) (a .part .now) (c .refused .result) (omega arith) (c .refused .ensures)
 
 read-u32-requires : tie.Need-read-u32-requires
 read-u32-requires c κs = search needs
@@ -43,7 +43,7 @@ returns-2 c =
     let m = c .before .before in
     let o = m .before .before in
     let i = o .before in
-    circuit-law (a .width) (a .part .now) (omega arith) (m .amplitude .result) (c .before .said-of .result) (c .fresh .result) (i .read-u32 .result) (o .read-u322 .result)
+    circuit-law (a .edition) (a .width) (a .part .now) (omega arith) (m .amplitude .result) (c .before .said-of .result) (c .fresh .result) (i .read-u32 .result) (o .read-u322 .result)
     (m .amplitude .ensures) (i .read-u32 .ensures .is) (o .read-u322 .ensures .is) (c .before .said-of .ensures) (c .fresh .ensures)
 
 pub circuit-body-spec : {M : Type 1} → statement M

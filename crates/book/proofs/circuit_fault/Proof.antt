@@ -9,7 +9,7 @@ use Rattle.book.proofs.circuit_fault.Tie as tie
 returns : tie.Need-returns
 returns c =
     let a = c .before .before .args in
-    sym (short-number (a .width) (a .part .now) (omega arith))
+    sym (short-number (a .edition) (a .width) (a .part .now) (omega arith))
 
 read-u32-requires : tie.Need-read-u32-requires
 read-u32-requires c κs = search needs
@@ -34,7 +34,7 @@ returns-2 c =
     let a = c .before .before .before .before .before .before .args in
     let o = c .before .before in
     let i = o .before in
-    number-law (a .width) (a .part .now) (omega arith) (c .number .result) (i .read-u32 .result) (o .read-u322 .result)
+    number-law (a .edition) (a .width) (a .part .now) (omega arith) (c .number .result) (i .read-u32 .result) (o .read-u322 .result)
     (c .number .ensures) (i .read-u32 .ensures .is) (o .read-u322 .ensures .is)
 
 pub circuit-fault-spec : {M : Type 1} → statement M

@@ -5,12 +5,15 @@ use Rattle.book.proofs.Laws.Number.{entry-within, number-circuit, numbe
 use Rattle.book.proofs.fault_at.Statement.{statement}
 use Rattle.book.proofs.fault_at.Tie as tie
 
+edition-requires : tie.Need-edition-requires
+edition-requires c κs = search needs
+
 entry-at-requires : tie.Need-entry-at-requires
 entry-at-requires c κs = search needs
 
 add-to : tie.Need-add-to
 add-to c =
-    let s = c .before .before .before in
+    let s = c .before .before .before .before in
     let w = entry-within (s .args .book .now) (s .args .j) (c .before .entry-at .result) (s .pre .0) (s .pre .1) (c .before .entry-at .ensures) in
     omega (arith, w .0, w .1)
 
@@ -22,7 +25,7 @@ part-circuit-fault-start c = search needs
 
 part-circuit-fault-end : tie.Need-part-circuit-fault-end
 part-circuit-fault-end c =
-    let s = c .before .before .before .before .before in
+    let s = c .before .before .before .before .before .before in
     let e = c .before .before .before .entry-at in
     entry-within (s .args .book .now) (s .args .j) (e .result) (s .pre .0) (s .pre .1) (e .ensures) .0
 
@@ -31,9 +34,10 @@ circuit-fault-requires c κs = search needs
 
 returns : tie.Need-returns
 returns c =
-    let a = c .before .before .before .before .before .before .before .args in
+    let a = c .before .before .before .before .before .before .before .before .args in
+    let d = c .before .before .before .before .before .before .edition in
     let e = c .before .before .before .before .before .entry-at in
-    number-circuit (a .book .now) (a .j) (e .result) (c .circuit-fault .result) (e .ensures) (c .before .before .if1 .taken) (c .circuit-fault .ensures)
+    number-circuit (a .book .now) (a .j) (d .result) (e .result) (c .circuit-fault .result) (d .ensures) (e .ensures) (c .before .before .if1 .taken) (c .circuit-fault .ensures)
 
 sub-table-fault : tie.Need-sub-table-fault
 sub-table-fault c = search needs
@@ -43,7 +47,7 @@ part-table-fault-start c = search needs
 
 part-table-fault-end : tie.Need-part-table-fault-end
 part-table-fault-end c =
-    let s = c .before .before .before .before .before in
+    let s = c .before .before .before .before .before .before in
     let e = c .before .before .before .entry-at in
     entry-within (s .args .book .now) (s .args .j) (e .result) (s .pre .0) (s .pre .1) (e .ensures) .0
 
@@ -52,7 +56,7 @@ table-fault-requires c κs = search needs
 
 returns-2 : tie.Need-returns-2
 returns-2 c =
-    let a = c .before .before .before .before .before .before .before .args in
+    let a = c .before .before .before .before .before .before .before .before .args in
     let e = c .before .before .before .before .before .entry-at in
     number-table (a .book .now) (a .j) (e .result) (c .table-fault .result) (e .ensures) (c .before .before .if1 .left) (c .table-fault .ensures)
 
@@ -60,6 +64,7 @@ pub fault-at-spec : {M : Type 1} → statement M
 fault-at-spec =
     tie.close
     (tie.spec
+    edition-requires
     entry-at-requires
     add-to
     sub-circuit-fault

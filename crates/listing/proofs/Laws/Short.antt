@@ -17,7 +17,7 @@ use Rattle.state.specs.Entry.{ties}
 use Rattle.state.specs.Normal as normal
 use Rattle.state.specs.Normal.{Normal}
 use Rattle.gates.specs.Near.{Near}
-use Rattle.contents.specs.Contents.{countOf, widthOf, entryOf}
+use Rattle.contents.specs.Contents.{editionOf, countOf, widthOf, entryOf}
 use Rattle.contents.proofs.Laws.Good.{good}
 use Rattle.body_bytes.specs.Body.{bodyFault}
 use Rattle.body_read.specs.Table.{tableOf}
@@ -55,15 +55,15 @@ module _ (j : ℕ) (h : j < 16) where
   unfolding long bodyLine
   refused-none k = omega arith
 
-  circuit-short : (n : ℕ) (bs : List ℕ) (b : Body) → CircuitAnswer n bs b → long j b ≤ 19
+  circuit-short : (ed n : ℕ) (bs : List ℕ) (b : Body) → CircuitAnswer ed n bs b → long j b ≤ 19
   unfolding long bodyLine
-  circuit-short n bs b A =
+  circuit-short ed n bs b A =
       ⊎-elim
-      (λ (z : circuitBodyNumber n bs ≡ 0).
+      (λ (z : circuitBodyNumber ed n bs ≡ 0).
       let a = saidAmount (b .said) in
       subst (λ (c : Body). long j c ≤ 19) (sym (A .given z)) (omega (arith, circuit-length j a (omega arith) (circuit-range a (A .value z .small) (A .value z .near)))))
-      (λ (ne : circuitBodyNumber n bs ≢ 0). subst (λ (c : Body). long j c ≤ 19) (sym (A .refused ne)) (refused-none (circuitBodyNumber n bs)))
-      (same-or (circuitBodyNumber n bs) 0)
+      (λ (ne : circuitBodyNumber ed n bs ≢ 0). subst (λ (c : Body). long j c ≤ 19) (sym (A .refused ne)) (refused-none (circuitBodyNumber ed n bs)))
+      (same-or (circuitBodyNumber ed n bs) 0)
 
   whole-short : (t : State) → Normal t → long j (tableBody t) ≤ 19
   unfolding long bodyLine
@@ -91,7 +91,7 @@ module _ (bs : List ℕ) (k : ℕ) (B : BookNumber bs k) (z : k ≡ 0) where
   line-short : (j : ℕ) (b : Body) → j < countOf bs → ReadsBody bs j b → long j b ≤ 19
   line-short j b h R =
       let a = R .answer (one-number bs (R .number) k (R .tested) B ∙ z) h in
-      ⊎-elim (λ c. circuit-short j (omega (arith, few, h)) (widthOf bs j) (bytesOf bs j) b (a .circuit c))
+      ⊎-elim (λ c. circuit-short j (omega (arith, few, h)) (editionOf bs) (widthOf bs j) (bytesOf bs j) b (a .circuit c))
       (λ c. table-short j (omega (arith, few, h)) (widthOf bs j) (bytesOf bs j) b (a .table c)) (good bs (contents-good bs k B z) .body j h (entryOf bs j) refl .kind)
 
   lines-short : (f : ℕ → Body) → ((j : ℕ) → j < countOf bs → ReadsBody bs j (f j)) → (n : ℕ) → n ≤ countOf bs → length (bodyLines n f) ≤ 19 * n

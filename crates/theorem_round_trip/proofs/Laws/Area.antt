@@ -19,7 +19,7 @@ use Rattle.theorem_round_trip.proofs.Laws.Book.{starts, ends, laid-book
 front-on : (xs bs cs : List ℕ) → over (front xs bs) (length bs) cs ≡ front xs (bs ++ cs)
 front-on xs bs cs = sym (over-front (front xs bs) cs (length bs)) ∙ front-more xs bs cs (length bs) refl
 
-module _ (xs : List ℕ) (ed : ℕ) (ks ws ls : List ℕ) (bodies areas : ℕ → List ℕ) (r : Written) (P : PutTogether xs ed ks ws ls bodies areas r) (fits : (j : ℕ) → j < length ks → Fits ks ws ls j (bodies j)) where
+module _ (xs : List ℕ) (ed : ℕ) (ks ws ls : List ℕ) (bodies areas : ℕ → List ℕ) (r : Written) (P : PutTogether xs ed ks ws ls bodies areas r) (fits : (j : ℕ) → j < length ks → Fits ed ks ws ls j (bodies j)) where
   lay-accepted : layNumber (length xs) ed ks ws ls ≡ accepted
   unfolding laidAnswer
   lay-accepted = sym (ap (λ (w : Written). w .refusal) (P .laid .answer)) ∙ P .unrefused

@@ -20,7 +20,7 @@ use Rattle.book.proofs.Laws.Number.{book-clear}
 use Rattle.theorem_round_trip.specs.Book.{laidBook, Fits, Holds}
 use Rattle.theorem_round_trip.proofs.Laws.Joined.{joined-length, joined-at}
 
-module _ (room ed : ℕ) (ks ws ls : List ℕ) (bodies : ℕ → List ℕ) (z : layNumber room ed ks ws ls ≡ accepted) (fits : (j : ℕ) → j < length ks → Fits ks ws ls j (bodies j)) where
+module _ (room ed : ℕ) (ks ws ls : List ℕ) (bodies : ℕ → List ℕ) (z : layNumber room ed ks ws ls ≡ accepted) (fits : (j : ℕ) → j < length ks → Fits ed ks ws ls j (bodies j)) where
   abbrev book : List ℕ
   book = laidBytes ed ks ws ls ++ joined (length ks) bodies
 
@@ -64,7 +64,7 @@ module _ (room ed : ℕ) (ks ws ls : List ℕ) (bodies : ℕ → List ℕ) (z : 
 
     number-is : BodyNumber book j accepted
     number-is = record {
-      circuit = λ k. sym (ap₂ circuitBodyNumber width-is body-is ∙ fits j h .circuit (sym kind-is ∙ k));
+      circuit = λ k. sym (ap (λ (v : ℕ). circuitBodyNumber v (widthOf book j) (bytesOf book j)) (rounded .edition) ∙ ap₂ (circuitBodyNumber ed) width-is body-is ∙ fits j h .circuit (sym kind-is ∙ k));
       table = λ k.
           subst (λ (n : ℕ). TableNumber n (bytesOf book j) accepted) (sym width-is)
           (subst (λ (l : List ℕ). TableNumber (getD ws j 0) l accepted) (sym body-is) (fits j h .table (sym kind-is ∙ k)));

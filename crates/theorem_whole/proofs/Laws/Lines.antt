@@ -34,9 +34,9 @@ ones-low : (n : ℕ) → ones (2 ^ n - 1) ≡ n
 ones-low n = ones-total n (2 ^ n - 1) (omega (arith, pow-pos n)) ∙ total-ext n (bit (2 ^ n - 1)) (λ v. 1) (first-bit n) ∙ total-ones n
 
 -- ---- a circuit's line
-pub circuit-line : (n j : ℕ) (bs : List ℕ) (r : Body) → circuitBodyNumber n bs ≡ accepted → circuitNumber n (inputOf bs) (outputOf bs) (gatesOf bs) ≡ accepted → CircuitAnswer n bs r → CircuitLine n bs j (bodyLine j (r .said) (r .table))
+pub circuit-line : (ed n j : ℕ) (bs : List ℕ) (r : Body) → circuitBodyNumber ed n bs ≡ accepted → circuitNumber ed n (inputOf bs) (outputOf bs) (gatesOf bs) ≡ accepted → CircuitAnswer ed n bs r → CircuitLine ed n bs j (bodyLine j (r .said) (r .table))
 unfolding bodyLine
-circuit-line n j bs r z w A = record {
+circuit-line ed n j bs r z w A = record {
   amount = saidAmount (r .said);
   small = A .value z .small;
   value = A .value z .value w;
@@ -44,11 +44,11 @@ circuit-line n j bs r z w A = record {
 }
 
 -- a body of a circuit that is not refused has room for its strings, and its circuit is not refused
-pub circuit-passed : (n : ℕ) (bs : List ℕ) → circuitBodyNumber n bs ≡ accepted → circuitNumber n (inputOf bs) (outputOf bs) (gatesOf bs) ≡ accepted
+pub circuit-passed : (ed n : ℕ) (bs : List ℕ) → circuitBodyNumber ed n bs ≡ accepted → circuitNumber ed n (inputOf bs) (outputOf bs) (gatesOf bs) ≡ accepted
 unfolding circuitBodyNumber
-circuit-passed n bs z = go (ltb (length bs) 8) z
+circuit-passed ed n bs z = go (ltb (length bs) 8) z
   where
-    go : (b : Bool) → cond b badBody (circuitNumber n (inputOf bs) (outputOf bs) (gatesOf bs)) ≡ accepted → circuitNumber n (inputOf bs) (outputOf bs) (gatesOf bs) ≡ accepted
+    go : (b : Bool) → cond b badBody (circuitNumber ed n (inputOf bs) (outputOf bs) (gatesOf bs)) ≡ accepted → circuitNumber ed n (inputOf bs) (outputOf bs) (gatesOf bs) ≡ accepted
     go true e = absurd (omega (arith, e))
     go false e = e
 

@@ -8,7 +8,7 @@ use lib.ListN.{length, take}
 use Rattle.exact.specs.Refusal.{accepted}
 use Rattle.exact.proofs.Laws.Bias.{is-only}
 use Rattle.bits.proofs.Laws.Bit.{same-or}
-use Rattle.contents.specs.Contents.{countOf, kindOf, widthOf, entryOf}
+use Rattle.contents.specs.Contents.{editionOf, countOf, kindOf, widthOf, entryOf}
 use Rattle.contents.proofs.Laws.Good.{good}
 use Rattle.book.specs.declared.Body.{Body}
 use Rattle.book.specs.Book.{bytesOf, BodyNumber, Clear, Refuses, BookNumber}
@@ -52,9 +52,9 @@ listing-text bs text L = record {
         let B : BookNumber bs accepted = subst (BookNumber bs) z (L .tested) in
         let N : BodyNumber bs j accepted = clear-of bs B j h in
         let R : ReadsBody bs j (L .bodies j) = L .read j h in
-        let A : BodyAnswer (kindOf bs j) (widthOf bs j) (bytesOf bs j) (L .bodies j) = R .answer (one-number bs (R .number) accepted (R .tested) B) h in
+        let A : BodyAnswer (editionOf bs) (kindOf bs j) (widthOf bs j) (bytesOf bs j) (L .bodies j) = R .answer (one-number bs (R .number) accepted (R .tested) B) h in
         record {
-          circuit = λ k. let c = sym (N .circuit k) in circuit-line (widthOf bs j) j (bytesOf bs j) (L .bodies j) c (circuit-passed (widthOf bs j) (bytesOf bs j) c) (A .circuit k);
+          circuit = λ k. let c = sym (N .circuit k) in circuit-line (editionOf bs) (widthOf bs j) j (bytesOf bs j) (L .bodies j) c (circuit-passed (editionOf bs) (widthOf bs j) (bytesOf bs j) c) (A .circuit k);
           table = λ k. table-line (widthOf bs j) j (bytesOf bs j) (L .bodies j) (N .table k) (A .table k);
         }
 
@@ -63,12 +63,12 @@ pub bytes-to-text : (bs xs ys : List ℕ) (r : ℕ) → Listed bs xs ys r → 31
 bytes-to-text bs xs ys r L room high = subst (Text bs) (sym (listed-front bs xs ys r L room high)) (listing-text bs (L .text) (L .listing))
 
 -- ---- no second text
-one-circuit : (n : ℕ) (bs : List ℕ) (j : ℕ) (l m : List ℕ) → CircuitLine n bs j l → CircuitLine n bs j m → l ≡ m
-one-circuit n bs j l m A B =
+one-circuit : (ed n : ℕ) (bs : List ℕ) (j : ℕ) (l m : List ℕ) → CircuitLine ed n bs j l → CircuitLine ed n bs j m → l ≡ m
+one-circuit ed n bs j l m A B =
     A .text ∙ ap (circuitLine j) (is-only (A .amount) (B .amount) _ _ (A .small) (B .small) (A .value) (B .value)) ∙ sym (B .text)
 
 one-line : (bs : List ℕ) (j : ℕ) (l m : List ℕ) → (kindOf bs j ≡ 1) ⊎ (kindOf bs j ≡ 2) → LineOf bs j l → LineOf bs j m → l ≡ m
-one-line bs j l m (inl k) A B = one-circuit (widthOf bs j) (bytesOf bs j) j l m (A .circuit k) (B .circuit k)
+one-line bs j l m (inl k) A B = one-circuit (editionOf bs) (widthOf bs j) (bytesOf bs j) j l m (A .circuit k) (B .circuit k)
 one-line bs j l m (inr k) A B = A .table k ∙ sym (B .table k)
 
 lines-same : (n : ℕ) (f g : ℕ → List ℕ) → ((j : ℕ) → j < n → f j ≡ g j) → linesOf n f ≡ linesOf n g

@@ -29,9 +29,9 @@ pub one-telling : (a : Answer) (t u v : Told) (n m : ℕ) → AnswerTold a t n u
 one-telling (NotGiven k) t u v n m A B = (A .number ∙ sym (B .number), A .kept k refl ∙ sym (B .kept k refl))
 one-telling (Is x) t u v n m A B = (A .number ∙ sym (B .number), A .given x refl ∙ sym (B .given x refl))
 
-pub one-amplitude-told : (width input output : ℕ) (bs : List ℕ) (t u v : Told) (n m : ℕ) → AmplitudeTold width input output bs t n u → AmplitudeTold width input output bs t m v → (n ≡ m) × (u ≡ v)
-one-amplitude-told width input output bs t u v n m A B =
-    let e = one-amplitude width input output bs (A .answer) (B .answer) (A .is) (B .is) in
+pub one-amplitude-told : (ed width input output : ℕ) (bs : List ℕ) (t u v : Told) (n m : ℕ) → AmplitudeTold ed width input output bs t n u → AmplitudeTold ed width input output bs t m v → (n ≡ m) × (u ≡ v)
+one-amplitude-told ed width input output bs t u v n m A B =
+    let e = one-amplitude ed width input output bs (A .answer) (B .answer) (A .is) (B .is) in
     one-telling (B .answer) t u v n m (subst (λ (a : Answer). AnswerTold a t n u) e (A .tells)) (B .tells)
 
 pub one-entry-told : (width : ℕ) (bs : List ℕ) (x : ℕ) (t u v : Told) (n m : ℕ) → EntryTold width bs x t n u → EntryTold width bs x t m v → (n ≡ m) × (u ≡ v)

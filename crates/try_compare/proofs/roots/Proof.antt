@@ -5,10 +5,10 @@ use Rattle.try_compare.proofs.roots.Statement.{statement}
 use Rattle.try_compare.proofs.roots.Tie as tie
 
 abbrev Inv-loop : tie.InvT-loop
-Inv-loop gates count sum₀ j₀ sum j = j ≤ count
+Inv-loop edition gates count sum₀ j₀ sum j = j ≤ count
 
 abbrev μ-loop : tie.MeasureT-loop
-μ-loop gates count sum₀ j₀ sum j = count - j
+μ-loop edition gates count sum₀ j₀ sum j = count - j
 
 loop-holds : tie.Need-loop-holds Inv-loop μ-loop
 loop-holds c = search needs
