@@ -25,13 +25,13 @@ enum {
     TOPAZFERN_ACCEPTED = 0,
     TOPAZFERN_NOT_LIVE = 1,      /* an assignment has a bit that is not live */
     TOPAZFERN_TWICE = 2,         /* the same wire twice */
-    TOPAZFERN_RANGE = 3,         /* second byte of a one-wire gate not 0 */
+    TOPAZFERN_RANGE = 3,         /* second byte of a one-wire gate not 0; number of a one-wire element above 23 */
     TOPAZFERN_WIDTH = 6,         /* width of a circuit not 1..31, or a wire not below it */
     TOPAZFERN_CODE = 7,          /* unknown gate code */
     TOPAZFERN_STRING = 8,        /* a string has a bit at or above the width */
     TOPAZFERN_HEADER = 9,        /* a book's length, letters, edition or count; an edition other than 1 or 2; a list to lay of more than 16 */
     TOPAZFERN_CONTENTS = 10,     /* a book's contents; lists to lay unequal, bad kind, or total above 60,000 */
-    TOPAZFERN_BODY = 11,         /* body length wrong, more than 4,096 gates, or a field out of range */
+    TOPAZFERN_BODY = 11,         /* body length wrong, more than 4,096 gates or elements, or a field out of range */
     TOPAZFERN_NOT_NORMAL = 12,   /* a table that is not normal */
     TOPAZFERN_ROOM = 13,         /* the area is too short for what is to be written, or the start is beyond its end */
     TOPAZFERN_NO_BODY = 14       /* no body of that number */
@@ -65,6 +65,15 @@ uint8_t topazfern_lay(uint8_t *area, size_t area_length, uint8_t edition, const 
 /* A table body of this width, tested, written into area from start on: the same bytes. Refuses 11, 12, 13. */
 uint8_t topazfern_write(const uint8_t *body, size_t body_length, uint8_t width, uint8_t *area, size_t area_length,
                         size_t start, size_t *bytes);
+
+/* The 24 one-wire Cliffords by their numbers (docs/cliffords.md), modulo global phase. *element is the answer, 0..23.
+ * The product: i, then j. The inverse: what undoes i. Both refuse 3 for a number above 23. */
+uint8_t topazfern_product(uint8_t i, uint8_t j, uint8_t *element);
+uint8_t topazfern_inverse(uint8_t i, uint8_t *element);
+
+/* The element that undoes up to 4,096 elements, applied in order: the closing gate of a one-wire run; of none it is 0.
+ * Refuses 3 for a number above 23 anywhere, then 11 for more than 4,096. */
+uint8_t topazfern_closing(const uint8_t *numbers, size_t numbers_length, uint8_t *element);
 
 #ifdef __cplusplus
 }
