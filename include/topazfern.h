@@ -45,13 +45,22 @@ enum {
 uint8_t topazfern_amplitude(uint8_t edition, uint8_t width, uint32_t input, uint32_t output, const uint8_t *gates,
                             size_t gates_length, uint8_t *zero, int32_t *power, uint8_t *phase);
 
-/* The listing of a book at the front of text. Answers its length, at most 312; bytes beyond text_length are dropped. A refused book has a listing too. */
+/* The listing of a book at the front of text: a line for each body, also for one that is refused; a fault of header or contents is the
+ * single line of its number. Answers its length, at most 312; bytes beyond text_length are dropped. */
 size_t topazfern_listing(const uint8_t *book, size_t book_length, uint8_t *text, size_t text_length);
 
+/* The same, all or nothing: where any body is refused, the single line of the first one's number. */
+size_t topazfern_listing_strict(const uint8_t *book, size_t book_length, uint8_t *text, size_t text_length);
+
 /* Body j of a book: *kind is 1 for a circuit, whose amplitude is the amount (*live and *ties are 0), or 2 for a table, with its
- * live bits, its ties, and its power and phase as the amount. Refuses as the book is refused (9, 10, then its bodies), then 14. */
+ * live bits, its ties, and its power and phase as the amount. Refuses 9, 10, then 14, then as the body is refused, whatever the
+ * other bodies are. */
 uint8_t topazfern_read(const uint8_t *book, size_t book_length, size_t j, uint8_t *kind, size_t *live, size_t *ties,
                        uint8_t *zero, int32_t *power, uint8_t *phase);
+
+/* The same, all or nothing: refuses as the book is refused (9, 10, then its bodies in order), then 14. */
+uint8_t topazfern_read_strict(const uint8_t *book, size_t book_length, size_t j, uint8_t *kind, size_t *live, size_t *ties,
+                              uint8_t *zero, int32_t *power, uint8_t *phase);
 
 /* The entry of a table body of this width at an assignment, bit v of x for slot v. Refuses 11, 12, then 1. */
 uint8_t topazfern_entry(const uint8_t *body, size_t body_length, uint8_t width, uint64_t x,

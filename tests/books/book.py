@@ -115,13 +115,28 @@ def line(edition, at, entry, data):
     return f"{at} T {entry.width} {len(table.ties)} {table.power} {table.phase}"
 
 
-def listing(book):
-    """What `amps` must print: "First line `book` and the count." "A refused book gives the single line `refused` and the number." """
-    fault = next(faults(book), None)
-    if fault is not None:
-        return f"refused {fault.number}\n"
-    lines = [line(book[2], at, entry, data) for at, (entry, data) in enumerate(bodies(book))]
+def answer(edition, at, entry, data):
+    """A body's line, or "`1 refused 7` in place of the answer" """
+    fault = next(body_faults(at, entry, data), None)
+    return line(edition, at, entry, data) if fault is None else f"{at} refused {fault.number}"
+
+
+def listed(book, refused):
+    """The whole listing, given the fault that refuses the book, or None."""
+    if refused is not None:
+        return f"refused {refused.number}\n"
+    lines = [answer(book[2], at, entry, data) for at, (entry, data) in enumerate(bodies(book))]
     return "".join(text + "\n" for text in [f"book {book[3]}", *lines])
+
+
+def listing(book):
+    """What `amps` must print: "First line `book` and the count." "faults of header or contents still refuse the whole" """
+    return listed(book, next((fault for fault in faults(book) if fault.stage != "body"), None))
+
+
+def strict_listing(book):
+    """What the strict reading lists: "A refused book gives the single line `refused` and the number." """
+    return listed(book, next(faults(book), None))
 
 
 def lay(parts, edition=1):

@@ -32,8 +32,8 @@ FRAMES = [
     ("51 4E 01 01", "refused 10"),
     ("51 4E 01 01 01 01 08 00 0C 00 00", "refused 10"),
     ("51 4E 01 01 01 01 08 00 0C 00 00 00", "refused 10"),  # no body
-    ("51 4E 01 01 01 01 00 00 0C 00 00 00", "refused 11"),  # a body of length 0 is there
-    ("51 4E 01 01 02 00 00 00 0C 00 00 00", "refused 11"),
+    ("51 4E 01 01 01 01 00 00 0C 00 00 00", "book 1/0 refused 11"),  # a body of length 0 is there
+    ("51 4E 01 01 02 00 00 00 0C 00 00 00", "book 1/0 refused 11"),
     ("51 4E 01 01 00 01 00 00 0C 00 00 00", "refused 10"),  # kind 0
     ("51 4E 01 01 03 01 00 00 0C 00 00 00", "refused 10"),  # kind 3
     ("51 4E 01 01 02 00 05 00 0C 00 00 00 00 00 00 00 00", "book 1/0 T 0 0 0 0"),
@@ -48,7 +48,7 @@ FRAMES = [
     # the first body has a zero mark of 2, the second entry a bad kind
     ("51 4E 01 02 02 00 05 00 14 00 00 00 09 00 05 00 19 00 00 00 02 00 00 00 00 01 00 00 00 00", "refused 10"),
     # the first body is not normal (12), the second has a phase of 8 (11)
-    ("51 4E 01 02 02 00 05 00 14 00 00 00 02 00 05 00 19 00 00 00 01 01 00 00 00 00 08 00 00 00", "refused 12"),
+    ("51 4E 01 02 02 00 05 00 14 00 00 00 02 00 05 00 19 00 00 00 01 01 00 00 00 00 08 00 00 00", "book 2/0 refused 12/1 refused 11"),
 ]
 
 CIRCUITS = [
@@ -69,29 +69,38 @@ CIRCUITS = [
     (circuit(2, "01000000 03000000 110001"), "book 1/0 C 0 0"),  # CX, the first wire controls
     (circuit(2, "02000000 03000000 110001"), "book 1/0 C zero"),
     (circuit(2, "03000000 03000000 100001"), "book 1/0 C 0 4"),  # CZ
-    (circuit(0, NO_STRINGS), "refused 6"),
-    (circuit(32, NO_STRINGS), "refused 6"),
-    (circuit(255, NO_STRINGS), "refused 6"),
+    (circuit(0, NO_STRINGS), "book 1/0 refused 6"),
+    (circuit(32, NO_STRINGS), "book 1/0 refused 6"),
+    (circuit(255, NO_STRINGS), "book 1/0 refused 6"),
     (circuit(31, "00000040 00000040"), "book 1/0 C 0 0"),
-    (circuit(31, "00000080 00000000"), "refused 8"),
-    (circuit(1, "00000000 02000000"), "refused 8"),
-    (circuit(0, "01000000 00000000"), "refused 6"),  # 6 before 8
-    (circuit(1, NO_STRINGS + "000000"), "refused 7"),
-    (circuit(1, NO_STRINGS + "080000"), "refused 7"),
-    (circuit(1, NO_STRINGS + "130000"), "refused 7"),
-    (circuit(1, NO_STRINGS + "FF0909"), "refused 7"),  # 7 before 6
-    (circuit(1, NO_STRINGS + "010100"), "refused 6"),
-    (circuit(1, NO_STRINGS + "010101"), "refused 6"),  # 6 before 3
-    (circuit(1, NO_STRINGS + "010001"), "refused 3"),
-    (circuit(2, NO_STRINGS + "110101"), "refused 2"),
-    (circuit(2, NO_STRINGS + "110202"), "refused 6"),  # 6 before 2
-    (circuit(2, NO_STRINGS + "100002"), "refused 6"),
-    (circuit(2, NO_STRINGS + "110101 FF0000"), "refused 2"),  # gates in order
-    (circuit(2, NO_STRINGS + "FF0000 110101"), "refused 7"),
-    (circuit(1, "02000000 00000000 FF0000"), "refused 8"),  # 8 before gates
-    (circuit(0, NO_STRINGS + "01"), "refused 11"),  # 11 before 6
-    (circuit(1, NO_STRINGS + "0100"), "refused 11"),
-    (circuit(1, "00000000 000000"), "refused 11"),
+    (circuit(31, "00000080 00000000"), "book 1/0 refused 8"),
+    (circuit(1, "00000000 02000000"), "book 1/0 refused 8"),
+    (circuit(0, "01000000 00000000"), "book 1/0 refused 6"),  # 6 before 8
+    (circuit(1, NO_STRINGS + "000000"), "book 1/0 refused 7"),
+    (circuit(1, NO_STRINGS + "080000"), "book 1/0 refused 7"),
+    (circuit(1, NO_STRINGS + "130000"), "book 1/0 refused 7"),
+    (circuit(1, NO_STRINGS + "FF0909"), "book 1/0 refused 7"),  # 7 before 6
+    (circuit(1, NO_STRINGS + "010100"), "book 1/0 refused 6"),
+    (circuit(1, NO_STRINGS + "010101"), "book 1/0 refused 6"),  # 6 before 3
+    (circuit(1, NO_STRINGS + "010001"), "book 1/0 refused 3"),
+    (circuit(2, NO_STRINGS + "110101"), "book 1/0 refused 2"),
+    (circuit(2, NO_STRINGS + "110202"), "book 1/0 refused 6"),  # 6 before 2
+    (circuit(2, NO_STRINGS + "100002"), "book 1/0 refused 6"),
+    (circuit(2, NO_STRINGS + "110101 FF0000"), "book 1/0 refused 2"),  # gates in order
+    (circuit(2, NO_STRINGS + "FF0000 110101"), "book 1/0 refused 7"),
+    (circuit(1, "02000000 00000000 FF0000"), "book 1/0 refused 8"),  # 8 before gates
+    (circuit(0, NO_STRINGS + "01"), "book 1/0 refused 11"),  # 11 before 6
+    (circuit(1, NO_STRINGS + "0100"), "book 1/0 refused 11"),
+    (circuit(1, "00000000 000000"), "book 1/0 refused 11"),
+]
+
+# "one line per body, `1 refused 7` in place of the answer, and the rest goes on": H; code 8; a turn of 4; a lead with a turn; a width
+# of 40; one bit with turn 1
+NIGHT = [
+    ("51 4E 01 06 01 01 0B 00 34 00 00 00 01 01 0B 00 3F 00 00 00 02 01 0E 00 4A 00 00 00 02 01 17 00 58 00 00 00 01 28 08 00 6F 00 00 00"
+     "02 01 0E 00 77 00 00 00 00000000 01000000 010000 00000000 01000000 080000 00 00 0000 04 " + ROW + "00"
+     "00 00 0000 02" + ROW + "01 01000000 00000000 00" + NO_STRINGS + "00 00 0000 01" + ROW + "00",
+     "book 6/0 C -1 0/1 refused 7/2 refused 11/3 refused 12/4 refused 6/5 T 1 0 0 0"),
 ]
 
 # "SX 0→0 is (−1,1) in edition 1 and (−1,0) in edition 2": two bodies, from 0 to 0 and to 1
@@ -107,45 +116,45 @@ TABLES = [
     (table(0, "01 00 0000 00"), "book 1/0 T 0 zero"),
     (table(0, "00 07 D007 00"), "book 1/0 T 0 0 2000 7"),
     (table(0, "00 00 30F8 00"), "book 1/0 T 0 0 -2000 0"),
-    (table(0, "00 00 D107 00"), "refused 11"),
-    (table(0, "00 00 2FF8 00"), "refused 11"),
-    (table(0, "00 08 0000 00"), "refused 11"),
-    (table(0, "02 00 0000 00"), "refused 11"),
-    (table(0, "00 00 0000 01" + ROW + "00"), "refused 11"),  # more ties than slots
-    (table(0, "01 00 0100 00"), "refused 12"),  # zero with a power
-    (table(0, "01 01 0000 00"), "refused 12"),  # zero with a phase
-    (table(0, "01 08 0100 00"), "refused 11"),  # 11 before 12
+    (table(0, "00 00 D107 00"), "book 1/0 refused 11"),
+    (table(0, "00 00 2FF8 00"), "book 1/0 refused 11"),
+    (table(0, "00 08 0000 00"), "book 1/0 refused 11"),
+    (table(0, "02 00 0000 00"), "book 1/0 refused 11"),
+    (table(0, "00 00 0000 01" + ROW + "00"), "book 1/0 refused 11"),  # more ties than slots
+    (table(0, "01 00 0100 00"), "book 1/0 refused 12"),  # zero with a power
+    (table(0, "01 01 0000 00"), "book 1/0 refused 12"),  # zero with a phase
+    (table(0, "01 08 0100 00"), "book 1/0 refused 11"),  # 11 before 12
     (table(1, "00 03 FFFF 00" + ROW + "01 01000000 00000000 01"), "book 1/0 T 1 1 -1 3"),
     (table(1, "00 00 0000 03" + ROW + "00"), "book 1/0 T 1 0 0 0"),
-    (table(1, "00 00 0000 04" + ROW + "00"), "refused 11"),
-    (table(1, "00 00 0000 00 02000000 00000000 00"), "refused 11"),  # a row bit at n
-    (table(1, "00 00 0000 00 01000000 00000000 00"), "refused 12"),  # a sign of slot 0 with itself
-    (table(1, "00 00 0000 00" + ROW + "01 02000000 00000000 00"), "refused 11"),  # a mask bit at n
-    (table(1, "00 00 0000 00" + ROW + "01 01000000 00000000 02"), "refused 11"),
-    (table(1, "00 00 0000 00" + ROW + "01 00000000 00000000 00"), "refused 12"),  # an empty tie
-    (table(1, "00 00 0000 02" + ROW + "01 01000000 00000000 00"), "refused 12"),  # the turn of a lead
+    (table(1, "00 00 0000 04" + ROW + "00"), "book 1/0 refused 11"),
+    (table(1, "00 00 0000 00 02000000 00000000 00"), "book 1/0 refused 11"),  # a row bit at n
+    (table(1, "00 00 0000 00 01000000 00000000 00"), "book 1/0 refused 12"),  # a sign of slot 0 with itself
+    (table(1, "00 00 0000 00" + ROW + "01 02000000 00000000 00"), "book 1/0 refused 11"),  # a mask bit at n
+    (table(1, "00 00 0000 00" + ROW + "01 01000000 00000000 02"), "book 1/0 refused 11"),
+    (table(1, "00 00 0000 00" + ROW + "01 00000000 00000000 00"), "book 1/0 refused 12"),  # an empty tie
+    (table(1, "00 00 0000 02" + ROW + "01 01000000 00000000 00"), "book 1/0 refused 12"),  # the turn of a lead
     (table(1, "01 00 0000 00" + ROW + "00"), "book 1/0 T 1 zero"),
-    (table(1, "01 00 0000 01" + ROW + "00"), "refused 12"),
-    (table(1, "01 00 0000 00" + ROW + "01 01000000 00000000 00"), "refused 12"),
-    (table(1, "00 00 0000 00" + ROW), "refused 11"),  # a byte is missing
-    (table(1, "00 00 0000 00" + ROW + "00 00"), "refused 11"),
+    (table(1, "01 00 0000 01" + ROW + "00"), "book 1/0 refused 12"),
+    (table(1, "01 00 0000 00" + ROW + "01 01000000 00000000 00"), "book 1/0 refused 12"),
+    (table(1, "00 00 0000 00" + ROW), "book 1/0 refused 11"),  # a byte is missing
+    (table(1, "00 00 0000 00" + ROW + "00 00"), "book 1/0 refused 11"),
     # "Tie {0,1}=1, then quarter 1 on slot 0: c=2, a_1=3, a_0=0."
     (table(2, "00 02 0000 00 03" + ROW + ROW + "01 03000000 00000000 01"), "book 1/0 T 2 1 0 2"),
     # the same before it is reduced: the turn stands on the lead
-    (table(2, "00 00 0000 01 00" + ROW + ROW + "01 03000000 00000000 01"), "refused 12"),
+    (table(2, "00 00 0000 01 00" + ROW + ROW + "01 03000000 00000000 01"), "book 1/0 refused 12"),
     (table(2, "00 00 0000 00 00 02000000 00000000 01000000 00000000 00"), "book 1/0 T 2 0 0 0"),
-    (table(2, "00 00 0000 00 00 02000000 00000000 00000000 00000000 00"), "refused 12"),  # not symmetric
-    (table(2, "00 00 0000 00 00 02000000 00000000 01000000 00000000 01 01000000 00000000 00"), "refused 12"),  # a lead's row
+    (table(2, "00 00 0000 00 00 02000000 00000000 00000000 00000000 00"), "book 1/0 refused 12"),  # not symmetric
+    (table(2, "00 00 0000 00 00 02000000 00000000 01000000 00000000 01 01000000 00000000 00"), "book 1/0 refused 12"),  # a lead's row
     (table(2, "00 00 0000 00 00" + ROW + ROW + "02 01000000 00000000 00 02000000 00000000 01"), "book 1/0 T 2 2 0 0"),
-    (table(2, "00 00 0000 00 00" + ROW + ROW + "02 02000000 00000000 01 01000000 00000000 00"), "refused 12"),  # order of leads
-    (table(2, "00 00 0000 00 00" + ROW + ROW + "02 03000000 00000000 01 02000000 00000000 00"), "refused 12"),  # a lead elsewhere
-    (table(2, "01 00 0000 00 00 02000000 00000000 01000000 00000000 00"), "refused 12"),  # zero with a sign
-    (table(65, "00 00 0000 00"), "refused 11"),
+    (table(2, "00 00 0000 00 00" + ROW + ROW + "02 02000000 00000000 01 01000000 00000000 00"), "book 1/0 refused 12"),  # order of leads
+    (table(2, "00 00 0000 00 00" + ROW + ROW + "02 03000000 00000000 01 02000000 00000000 00"), "book 1/0 refused 12"),  # a lead elsewhere
+    (table(2, "01 00 0000 00 00 02000000 00000000 01000000 00000000 00"), "book 1/0 refused 12"),  # zero with a sign
+    (table(65, "00 00 0000 00"), "book 1/0 refused 11"),
 ]
 
 
 def cases():
     """(book, listing); the listings above have / for a newline and leave out the last one."""
     yield PAPER, "book 2\n0 C -1 0\n1 C -1 1\n"
-    for text, said in FRAMES + CIRCUITS + EDITIONS + TABLES:
+    for text, said in FRAMES + CIRCUITS + NIGHT + EDITIONS + TABLES:
         yield bytes.fromhex(text), said.replace("/", "\n") + "\n"

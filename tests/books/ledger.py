@@ -29,6 +29,10 @@ class Ledger:
                 self.refusals[int(words[1])] += 1
             elif words[0] == "book":
                 self.counts["books answered"] += 1
+            elif words[1] == "refused":
+                self.counts["bodies"] += 1
+                self.counts["bodies refused"] += 1
+                self.refusals[int(words[2])] += 1
             else:
                 kind = {"C": "amplitudes", "T": "tables"}[words[1]]
                 self.counts["bodies"] += 1
@@ -43,10 +47,19 @@ class Ledger:
         """A book, and what `amps` said of it, which was found right."""
         self.count(said)
         faults = list(books.faults(book))
+        self.note_lines(said)
         if faults:
             self.note_refused(book, faults)
         else:
             self.note_answered(book)
+
+    def note_lines(self, said):
+        """Where refused bodies stand among answered ones."""
+        refused = [" refused " in line for line in said.splitlines()[1:]]
+        for pair in zip(refused, refused[1:]):
+            self.met["a body {} behind one {}".format(*("refused" if bad else "answered" for bad in reversed(pair)))] += 1
+        if refused and all(refused):
+            self.met["every body refused"] += 1
 
     def note_answered(self, book):
         self.met[f"{book[3]} bodies"] += 1
@@ -104,7 +117,7 @@ class Ledger:
         return numbers + [name for name in demands() if not self.met[name]]
 
     def summary(self):
-        names = ("books", "books answered", "bodies", "amplitudes", "zero amplitudes", "tables", "zero tables")
+        names = ("books", "books answered", "bodies", "bodies refused", "amplitudes", "zero amplitudes", "tables", "zero tables")
         yield ", ".join(f"{self.counts[name]} {name}" for name in names)
         yield "refusals: " + ", ".join(f"{count} by {number}" for number, count in sorted(self.refusals.items()))
         yield f"{len(demands())} edges, faults and orders asked for, {sum(1 for name in demands() if self.met[name])} met"
@@ -134,6 +147,13 @@ def answered_edges():
     yield from (f"zero table width {width}" for width in range(65))
     yield from (f"table power {power}" for power in (2000, -2000, 1999, -1999, 0, 1, -1))
     yield from (f"as many ties as slots, {width}" for width in (1, 2, 63, 64))
+
+
+def lines():
+    """Answers and refusals side by side: "and the rest goes on" """
+    states = ("answered", "refused")
+    yield from (f"a body {a} behind one {b}" for a in states for b in states)
+    yield "every body refused"
 
 
 def refused_edges():
@@ -179,4 +199,4 @@ def orders():
 
 
 def demands():
-    return [*answered_edges(), *refused_edges(), *lone_faults(), *orders()]
+    return [*answered_edges(), *lines(), *refused_edges(), *lone_faults(), *orders()]

@@ -13,7 +13,7 @@ def ended(process):
 
 
 def by_pipe(amps, book):
-    return ended(subprocess.run([amps], input=book, stdout=subprocess.PIPE, timeout=PATIENCE))
+    return ended(subprocess.run(amps if isinstance(amps, list) else [amps], input=book, stdout=subprocess.PIPE, timeout=PATIENCE))
 
 
 def by_file(amps, book):

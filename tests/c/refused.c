@@ -18,6 +18,20 @@ static void expect(const char *what, int holds)
 static const uint8_t sound[] = {0, 0, 0, 0, 0, 0, 0, 0, 0, 0, 0, 0, 0, 0};
 static const uint8_t empty_tie[] = {0, 0, 0, 0, 0, 0, 0, 0, 0, 0, 0, 0, 0, 1, 0, 0, 0, 0, 0, 0, 0, 0, 0};
 
+/* Two circuits of width 1: one with an unknown gate, one with H from 0 to 1. */
+static const uint8_t half_bad[] = {0x51, 0x4E, 1, 2, 1, 1, 11, 0, 20, 0, 0, 0, 1, 1, 11, 0, 31, 0, 0, 0,
+                                   0, 0, 0, 0, 0, 0, 0, 0, 9, 0, 0, 0, 0, 0, 0, 1, 0, 0, 0, 1, 0, 0};
+
+static void bodies(void)
+{
+    uint8_t zero = 200, phase = 201, kind = 202;
+    int32_t power = -7;
+    size_t live = 77, ties = 78;
+
+    expect("a good body beside a bad one", topazfern_read(half_bad, sizeof half_bad, 1, &kind, &live, &ties, &zero, &power, &phase) == 0);
+    expect("its amplitude", kind == 1 && live == 0 && ties == 0 && zero == 0 && power == -1 && phase == 0);
+}
+
 static void amounts(void)
 {
     uint8_t zero = 200, phase = 201, kind = 202;
@@ -38,6 +52,10 @@ static void amounts(void)
     expect("a bit that is not live", topazfern_entry(sound, sizeof sound, 1, 2, &zero, &power, &phase) == 1);
     expect("an empty book", topazfern_read(sound, 0, 0, &kind, &live, &ties, &zero, &power, &phase) == 9);
     expect("no body", topazfern_read((const uint8_t *)"QN\1\0", 4, 0, &kind, &live, &ties, &zero, &power, &phase) == 14);
+    expect("a body behind a bad one, strictly", topazfern_read_strict(half_bad, sizeof half_bad, 1, &kind, &live, &ties, &zero, &power, &phase) == 7);
+    expect("no third body, strictly", topazfern_read_strict(half_bad, sizeof half_bad, 2, &kind, &live, &ties, &zero, &power, &phase) == 7);
+    expect("no third body", topazfern_read(half_bad, sizeof half_bad, 2, &kind, &live, &ties, &zero, &power, &phase) == 14);
+    expect("the bad body", topazfern_read(half_bad, sizeof half_bad, 0, &kind, &live, &ties, &zero, &power, &phase) == 7);
     expect("amounts unchanged", zero == 200 && power == -7 && phase == 201 && kind == 202 && live == 77 && ties == 78);
 }
 
@@ -70,6 +88,7 @@ static void areas(void)
 
 int main(void)
 {
+    bodies();
     amounts();
     areas();
     if (!bad)

@@ -1,47 +1,16 @@
 -- The bodies of a book: their bytes, the number that refuses each, and the number that refuses the book.
-use mathlib.Core.Bool.{true, false, cond}
 use mathlib.Core.List.{List}
 use mathlib.Core.Logic.{_≢_, _⊎_}
 use mathlib.Core.Path.{_≡_}
 use Prim.Native.Nat.{ℕ, _<_}
-use lib.Dec.{ltb}
-use lib.ListN.{length, take, drop}
-use Rattle.exact.specs.Refusal.{accepted, badBody, notNormal}
-use Rattle.fields.specs.Bytes.{number}
-use Rattle.gates.specs.Circuit.{circuitNumber}
-use Rattle.state.specs.Normal.{Normal}
+use lib.ListN.{take, drop}
+use Rattle.exact.specs.Refusal.{accepted}
 use Rattle.contents.specs.Contents.{editionOf, countOf, kindOf, widthOf, lengthOf, startOf, contentsNumber}
-use Rattle.body_bytes.specs.Body.{bodyFault}
-use Rattle.body_read.specs.Table.{tableOf}
+use Rattle.book_bodies.specs.Number.{circuitBodyNumber, TableNumber}
 
 -- the bytes of body j: "length (16 bits), start (32 bits)"
 unfoldable pub bytesOf : List ℕ → ℕ → List ℕ
 bytesOf bs j = take (lengthOf bs j) (drop (startOf bs j) bs)
-
--- ---- a circuit's body
--- "Circuit body: input string (32 bits), output string (32 bits), gates."
-abbrev pub inputOf : List ℕ → ℕ
-inputOf bs = number 4 bs 0
-
-abbrev pub outputOf : List ℕ → ℕ
-outputOf bs = number 4 bs 4
-
-abbrev pub gatesOf : List ℕ → List ℕ
-gatesOf bs = drop 8 bs
-
--- 11: "body length wrong": no room for the two strings; "Circuits: 11, 6, 8, gates in order."; e is the edition of the book
-unfoldable pub circuitBodyNumber : ℕ → ℕ → List ℕ → ℕ
-circuitBodyNumber e n bs = cond (ltb (length bs) 8) badBody (circuitNumber e n (inputOf bs) (outputOf bs) (gatesOf bs))
-
--- ---- a table's body
--- k is the number of a table's body of width n. "Table body: 11 before 12."
-pub record TableNumber (n : ℕ) (bs : List ℕ) (k : ℕ) : Type 0 where
-  pub fault : bodyFault n bs ≡ true → k ≡ badBody
-  -- 12: "a table .. read is not normal"
-  pub broken : bodyFault n bs ≡ false → (Normal (tableOf n bs) → ⊥) → k ≡ notNormal
-  pub sound : bodyFault n bs ≡ false → Normal (tableOf n bs) → k ≡ accepted
-  -- not refused: the table is normal
-  pub normal : k ≡ accepted → Normal (tableOf n bs)
 
 -- ---- the bodies and the book
 -- k is the number of body j, 0 where it is not refused. "kind (1 circuit, 2 table)"

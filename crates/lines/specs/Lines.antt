@@ -34,3 +34,7 @@ tableLine j live ties a = digits j ++ letters " T " ++ countsText live ties a ++
 -- "A refused book gives the single line `refused` and the number."
 unfoldable pub refusedLine : ℕ → List ℕ
 refusedLine n = namedLine (letters "refused ") n
+
+-- "one line per body, `1 refused 7` in place of the answer"
+unfoldable pub refusedBodyLine : ℕ → ℕ → List ℕ
+refusedBodyLine j n = digits j ++ namedLine (letters " refused ") n

@@ -1,6 +1,6 @@
 // The text of a listing, line by line, written as bytes into a lent area.
 ghost use Rattle.lines_words.specs.Overlay.{TextLaid};
-ghost use Rattle.lines.specs.Lines.{namedLine, bookLine, amountText, circuitLine, countsText, tableLine, refusedLine};
+ghost use Rattle.lines.specs.Lines.{namedLine, bookLine, amountText, circuitLine, countsText, tableLine, refusedLine, refusedBodyLine};
 
 // A word, a number and the newline.
 fn named_line(area: &mut [u8], at: usize, word: &[u8], n: u8) -> usize
@@ -80,4 +80,12 @@ pub fn refused_line(area: &mut [u8], at: usize, n: u8) -> usize
     ensures { λ r. ⌜ TextLaid (now (area .entry)) at (refusedLine n) (now (area .exit)) r ⌝ }
 {
     named_line(area, at, b"refused ", n)
+}
+
+// The line of a refused body: its number, `refused` and the number of refusal.
+pub fn refused_body_line(area: &mut [u8], at: usize, j: u8, n: u8) -> usize
+    ensures { λ r. ⌜ TextLaid (now (area .entry)) at (refusedBodyLine j n) (now (area .exit)) r ⌝ }
+{
+    let p = lines_words::put_number(area, at, j as u64);
+    named_line(area, p, b" refused ", n)
 }

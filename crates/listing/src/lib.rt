@@ -1,57 +1,43 @@
 // The listing of a book, written into a lent area.
 ghost use mathlib.Core.Path.{_≡_};
-ghost use Rattle.lines_words.specs.Overlay.{TextLaid};
-ghost use Rattle.listing.specs.Listing.{tableAmount, bodyLine, Listed};
-use book::Body;
-use book::Said;
-use exact::Amount;
-use state::State;
+ghost use Rattle.contents.specs.Contents.{contentsNumber};
+ghost use Rattle.listing.specs.Listing.{Listed, ListedStrict};
+ghost use Rattle.listing.specs.Inner.Bodies.{BodiesListed};
 
-// What a table's line shows as its amount: zero, or its power and its phase.
-pub fn table_amount(t: State) -> Amount
-    ensures { λ r. ⌜ r ≡ tableAmount t ⌝ }
+// The first line and the line of each body of a book with good contents, at the front of an area.
+fn list_bodies(book: &[u8], area: &mut [u8]) -> usize
+    requires { ⌜ contentsNumber (now book) ≡ 0 ⌝ }
+    ensures { λ r. ⌜ BodiesListed (now (book .entry)) (now (area .entry)) (now (area .exit)) r ⌝ }
 {
-    if t.zero {
-        return Amount::Zero;
+    let n = contents::count(book);
+    let mut at = lines::book_line(area, 0, n as u8);
+    let mut j = 0usize;
+    while j < n {
+        let b = book::read(book, j);
+        at = listing_line::body_line(area, at, j as u8, b);
+        j += 1;
     }
-    let power = t.power;
-    let form = t.form;
-    let phase = form.phase;
-    Amount::Some(power, phase)
+    at
 }
 
-// The line of body j, from a place of the area on.
-fn body_line(area: &mut [u8], at: usize, j: u8, b: Body) -> usize
-    ensures { λ r. ⌜ TextLaid (now (area .entry)) at (bodyLine j (b .said) (b .table)) (now (area .exit)) r ⌝ }
-{
-    let t = b.table;
-    let s = b.said;
-    match s {
-        Said::Refused(_) => at,
-        Said::Circuit(a) => lines::circuit_line(area, at, j, a),
-        Said::Whole => {
-            let live = bits::count(t.live);
-            let ties = t.ties.count;
-            lines::table_line(area, at, j, live, ties, table_amount(t))
-        }
-    }
-}
-
-// The listing of a book at the front of an area. Answers its length; what lies beyond the area's end is dropped, and counted all the same.
+// The listing of a book at the front of an area, with a line for each body, refused or not. Answers its length; what lies beyond the area's end is dropped, and counted all the same.
 pub fn list(book: &[u8], area: &mut [u8]) -> usize
     ensures { λ r. ⌜ Listed (now (book .entry)) (now (area .entry)) (now (area .exit)) r ⌝ }
+{
+    let front = contents::test(book);
+    if front != 0 {
+        return lines::refused_line(area, 0, front);
+    }
+    list_bodies(book, area)
+}
+
+// The listing of a book, all or nothing: where any of its bodies is refused, the single line says by which number.
+pub fn list_strict(book: &[u8], area: &mut [u8]) -> usize
+    ensures { λ r. ⌜ ListedStrict (now (book .entry)) (now (area .entry)) (now (area .exit)) r ⌝ }
 {
     let number = book::test(book);
     if number != 0 {
         return lines::refused_line(area, 0, number);
     }
-    let n = contents::count(book);
-    let mut at = lines::book_line(area, 0, n as u8);
-    let mut j = 0usize;
-    while j < n {
-        let b = book::body_at(book, j);
-        at = body_line(area, at, j as u8, b);
-        j += 1;
-    }
-    at
+    list_bodies(book, area)
 }

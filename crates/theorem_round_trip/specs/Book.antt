@@ -9,7 +9,8 @@ use Rattle.contents_lay.specs.declared.Written.{Written}
 use Rattle.contents.specs.Contents.{editionOf, countOf, kindOf, widthOf, lengthOf, contentsNumber}
 use Rattle.contents_lay.specs.Lay.{laidStart, laidBytes, ContentsLaid}
 use Rattle.body_fields.specs.Fields.{joined}
-use Rattle.book.specs.Book.{bytesOf, circuitBodyNumber, TableNumber, BookNumber}
+use Rattle.book.specs.Book.{bytesOf, BookNumber}
+use Rattle.book_bodies.specs.Number.{circuitBodyNumber, TableNumber}
 
 -- "Contents first, then bodies", "in order without gaps"
 unfoldable pub laidBook : ℕ → List ℕ → List ℕ → List ℕ → (ℕ → List ℕ) → List ℕ

@@ -1,5 +1,5 @@
 -- Read this first: from a book's bytes to its listing's text in one statement, `Text` at the end. No struct of the code stands in this file: only bytes, matrices, whole numbers, text, and an amount (zero, or power and phase).
--- What `listing::list` promises is this text (`bytes-to-text`), no second text satisfies it (`one-text`), and a table that was read has the entries that its bytes state (`bytes-to-entry`).
+-- What `listing::list` promises is this text (`bytes-to-text`), what `listing::list_strict` promises is `StrictText` (`bytes-to-strict-text`), no second text satisfies either (`one-text`, `one-strict-text`), and a table that was read has the entries that its bytes state (`bytes-to-entry`).
 use mathlib.Core.Bool.{Bool, true, false, cond}
 use mathlib.Core.List.{List, [], _++_}
 use mathlib.Core.Logic.{_≢_, _⊎_}
@@ -17,8 +17,9 @@ use Rattle.gates.specs.Matrix.{IsAmplitude}
 use Rattle.gates.specs.Circuit.{gateList, gateCount}
 use Rattle.contents.specs.Contents.{editionOf, countOf, kindOf, widthOf, contentsNumber}
 use Rattle.body_bytes.specs.Body.{markOf, phaseOf, powerOf, turnOf, rowOf, tieCount, maskOf, sideOf, bodyFault}
-use Rattle.book.specs.Book.{bytesOf, inputOf, outputOf, gatesOf, circuitBodyNumber}
-use Rattle.lines.specs.Lines.{bookLine, circuitLine, tableLine, refusedLine}
+use Rattle.book.specs.Book.{bytesOf}
+use Rattle.book_bodies.specs.Number.{inputOf, outputOf, gatesOf, circuitBodyNumber}
+use Rattle.lines.specs.Lines.{bookLine, circuitLine, tableLine, refusedLine, refusedBodyLine}
 
 -- ---- a circuit's line
 -- "number, `C`, power, phase": of an amount whose exact value is "the entry of the product, row output, column input", in the edition e of the book
@@ -94,21 +95,29 @@ pub record BookRefusal (bs : List ℕ) (k : ℕ) : Type 0 where
   pub bodies : contentsNumber bs ≡ accepted → FirstRefusal bs (countOf bs) k
 
 -- ---- the book
--- line j of a book that is not refused. "kind (1 circuit, 2 table)"; "number, `T`, live, ties, power, phase"
+-- line j. "kind (1 circuit, 2 table)"; "number, `T`, live, ties, power, phase"; "`1 refused 7` in place of the answer"
 pub record LineOf (bs : List ℕ) (j : ℕ) (line : List ℕ) : Type 0 where
-  pub circuit : kindOf bs j ≡ 1 → CircuitLine (editionOf bs) (widthOf bs j) (bytesOf bs j) j line
-  pub table : kindOf bs j ≡ 2 → line ≡ tableLine j (widthOf bs j) (tieCount (widthOf bs j) (bytesOf bs j)) (stated (bytesOf bs j))
+  pub number : ℕ
+  pub tested : BodyRefusal bs j number
+  pub refused : number ≢ accepted → line ≡ refusedBodyLine j number
+  pub circuit : number ≡ accepted → kindOf bs j ≡ 1 → CircuitLine (editionOf bs) (widthOf bs j) (bytesOf bs j) j line
+  pub table : number ≡ accepted → kindOf bs j ≡ 2 → line ≡ tableLine j (widthOf bs j) (tieCount (widthOf bs j) (bytesOf bs j)) (stated (bytesOf bs j))
 
 -- the first n lines
 unfoldable pub linesOf : ℕ → (ℕ → List ℕ) → List ℕ
 linesOf zero f = []
 linesOf (suc n) f = linesOf n f ++ f n
 
--- "First line `book` and the count. Then for each body .. A refused book gives the single line `refused` and the number."
+-- "First line `book` and the count. Then for each body"; "the default is one line per body, `1 refused 7` in place of the answer, and the rest goes on; faults of header or contents still refuse the whole"
 pub record Text (bs text : List ℕ) : Type 0 where
+  pub refused : contentsNumber bs ≢ accepted → text ≡ refusedLine (contentsNumber bs)
+  pub lines : ℕ → List ℕ
+  pub each : contentsNumber bs ≡ accepted → (j : ℕ) → j < countOf bs → LineOf bs j (lines j)
+  pub listed : contentsNumber bs ≡ accepted → text ≡ bookLine (countOf bs) ++ linesOf (countOf bs) lines
+
+-- "A refused book gives the single line `refused` and the number.": "the strict reading by name"
+pub record StrictText (bs text : List ℕ) : Type 0 where
   pub number : ℕ
   pub tested : BookRefusal bs number
   pub refused : number ≢ accepted → text ≡ refusedLine number
-  pub lines : ℕ → List ℕ
-  pub each : number ≡ accepted → (j : ℕ) → j < countOf bs → LineOf bs j (lines j)
-  pub listed : number ≡ accepted → text ≡ bookLine (countOf bs) ++ linesOf (countOf bs) lines
+  pub listed : number ≡ accepted → Text bs text

@@ -1,2 +1,1 @@
-pub mod Tell
 pub mod Only

@@ -10,8 +10,10 @@ use Rattle.bits.proofs.Laws.Bit.{same-or}
 use Rattle.contents.specs.declared.Entry.{Entry}
 use Rattle.contents.specs.Contents.{editionOf, countOf, kindOf, widthOf, entryOf, contentsNumber}
 use Rattle.contents.proofs.Laws.Good.{good}
-use Rattle.book.specs.Book.{bytesOf, circuitBodyNumber, TableNumber, BodyNumber, Clear, BookNumber}
-use Rattle.book.specs.Read.{Body, CircuitAnswer, TableAnswer, BodyAnswer}
+use Rattle.book.specs.Book.{bytesOf, BodyNumber, Clear, BookNumber}
+use Rattle.book_bodies.specs.Number.{circuitBodyNumber, TableNumber}
+use Rattle.book_bodies.specs.declared.Body.{Body}
+use Rattle.book_bodies.specs.Answer.{CircuitAnswer, TableAnswer, BodyAnswer}
 
 -- ---- the part of the book that is lent
 part-law : (bs : List ℕ) (j : ℕ) (e : Entry) → e ≡ entryOf bs j → take (e .start + e .length - e .start) (drop (e .start) bs) ≡ bytesOf bs j

@@ -1,60 +1,25 @@
 -- No second result: of a body's number, of the book's, and of what reading a body answers. By the truth of each test.
-use mathlib.Core.Bool.{Bool, true, false}
 use mathlib.Core.List.{List}
-use mathlib.Core.Logic.{_≢_, inl, inr, ⊎-elim}
+use mathlib.Core.Logic.{inl, inr, ⊎-elim}
 use mathlib.Core.Path.{_≡_, refl, sym, ap, _∙_, subst}
 use Prim.Native.Nat.{ℕ, _<_}
 use native.Mathlib.Omega.{arith}
-use Rattle.exact.specs.declared.Answer.the-variants.{Is}
-use Rattle.exact.specs.Answer.{amountOf}
 use Rattle.exact.proofs.Laws.Sum.{split}
 use Rattle.bits.proofs.Laws.Bit.{same-or}
-use Rattle.state.specs.Normal.{Normal}
-use Rattle.circuit.proofs.Laws.Only.{one-amplitude}
 use Rattle.contents.specs.Contents.{editionOf, countOf, kindOf, widthOf, entryOf, contentsNumber}
 use Rattle.contents.proofs.Laws.Good.{good}
-use Rattle.body_bytes.specs.Body.{bodyFault}
-use Rattle.body_read.specs.Table.{tableOf}
-use Rattle.book.specs.Book.{inputOf, outputOf, gatesOf, bytesOf, circuitBodyNumber, TableNumber, BodyNumber, Clear, Refuses, BodiesNumber, BookNumber}
-use Rattle.book.specs.Read.{Body, saidNumber, saidAmount, refusal, circuitBody, CircuitAnswer, TableAnswer, BodyAnswer, BodyAt, ReadsBody}
-use Rattle.book.proofs.Laws.Number.{contents-good}
-
--- ---- a table's body
-module _ (n : ℕ) (bs : List ℕ) where
-  pub table-number : (k m : ℕ) → TableNumber n bs k → TableNumber n bs m → k ≡ m
-  table-number k m K M = by (bodyFault n bs) refl
-    where
-      by : (f : Bool) → bodyFault n bs ≡ f → k ≡ m
-      by true h = K .fault h ∙ sym (M .fault h)
-      by false h =
-          ⊎-elim (λ z. z ∙ sym (M .sound h (K .normal z)))
-          (λ ne. let b : Normal (tableOf n bs) → ⊥ = λ t. ne (K .sound h t) in K .broken h b ∙ sym (M .broken h b)) (same-or k 0)
-
-  pub table-answer : (r s : Body) → TableAnswer n bs r → TableAnswer n bs s → r ≡ s
-  table-answer r s R S = by (bodyFault n bs) refl
-    where
-      by : (f : Bool) → bodyFault n bs ≡ f → r ≡ s
-      by true h = R .fault h ∙ sym (S .fault h)
-      by false h =
-          ⊎-elim (λ z. R .sound h (R .normal z) ∙ sym (S .sound h (R .normal z)))
-          (λ ne. let b : Normal (tableOf n bs) → ⊥ = λ t. ne (ap (λ (x : Body). saidNumber (x .said)) (R .sound h t)) in R .broken h b ∙ sym (S .broken h b))
-          (same-or (saidNumber (r .said)) 0)
-
-  -- ---- a circuit's body
-  pub circuit-answer : (ed : ℕ) (r s : Body) → CircuitAnswer ed n bs r → CircuitAnswer ed n bs s → r ≡ s
-  circuit-answer ed r s R S = ⊎-elim given (λ ne. R .refused ne ∙ sym (S .refused ne)) (same-or (circuitBodyNumber ed n bs) 0)
-    where
-      given : circuitBodyNumber ed n bs ≡ 0 → r ≡ s
-      given z =
-          let e = one-amplitude ed n (inputOf bs) (outputOf bs) (gatesOf bs) (Is (saidAmount (r .said))) (Is (saidAmount (s .said))) (R .value z) (S .value z) in
-          R .given z ∙ ap circuitBody (ap amountOf e) ∙ sym (S .given z)
+use Rattle.book.specs.Book.{bytesOf, BodyNumber, Clear, Refuses, BodiesNumber, BookNumber}
+use Rattle.book.specs.Read.{ReadsBody, ReadsStrict}
+use Rattle.book_bodies.specs.declared.Body.{Body}
+use Rattle.book_bodies.specs.Answer.{refusal, BodyAnswer}
+use Rattle.book_bodies.proofs.Laws.Only.{one-table-number, one-table-answer, one-circuit-answer}
 
 module _ (bs : List ℕ) where
   -- ---- a body's number, where the contents are good
   module _ (z : contentsNumber bs ≡ 0) where
     pub body-number : (j k m : ℕ) → j < countOf bs → BodyNumber bs j k → BodyNumber bs j m → k ≡ m
     body-number j k m h K M =
-        ⊎-elim (λ c. K .circuit c ∙ sym (M .circuit c)) (λ c. table-number (widthOf bs j) (bytesOf bs j) k m (K .table c) (M .table c))
+        ⊎-elim (λ c. K .circuit c ∙ sym (M .circuit c)) (λ c. one-table-number (widthOf bs j) (bytesOf bs j) k m (K .table c) (M .table c))
         (good bs z .body j h (entryOf bs j) refl .kind)
 
     -- a body that is refused is not among those that are clear
@@ -84,27 +49,18 @@ module _ (bs : List ℕ) where
   answer-only : contentsNumber bs ≡ 0 → (j : ℕ) → j < countOf bs → (r s : Body) → BodyAnswer (editionOf bs) (kindOf bs j) (widthOf bs j) (bytesOf bs j) r
       → BodyAnswer (editionOf bs) (kindOf bs j) (widthOf bs j) (bytesOf bs j) s → r ≡ s
   answer-only z j h r s a b =
-      ⊎-elim (λ c. circuit-answer (widthOf bs j) (bytesOf bs j) (editionOf bs) r s (a .circuit c) (b .circuit c))
-      (λ c. table-answer (widthOf bs j) (bytesOf bs j) r s (a .table c) (b .table c)) (good bs z .body j h (entryOf bs j) refl .kind)
+      ⊎-elim (λ c. one-circuit-answer (widthOf bs j) (bytesOf bs j) (editionOf bs) r s (a .circuit c) (b .circuit c))
+      (λ c. one-table-answer (widthOf bs j) (bytesOf bs j) r s (a .table c) (b .table c)) (good bs z .body j h (entryOf bs j) refl .kind)
 
-  pub one-body-at : (j : ℕ) (r s : Body) → BodyAt bs j r → BodyAt bs j s → r ≡ s
-  one-body-at j r s R S =
+  pub one-body : (j : ℕ) (r s : Body) → ReadsBody bs j r → ReadsBody bs j s → r ≡ s
+  one-body j r s R S =
       ⊎-elim
       (λ z. ⊎-elim (λ h. answer-only z j h r s (R .answer z h) (S .answer z h)) (λ h. R .beyond z h ∙ sym (S .beyond z h)) (split j (countOf bs)))
       (λ ne. R .refused ne ∙ sym (S .refused ne)) (same-or (contentsNumber bs) 0)
 
-  -- ---- what reading a body answers
-  module _ (j : ℕ) (r s : Body) (R : ReadsBody bs j r) (S : ReadsBody bs j s) where
-    same : R .number ≡ S .number
-    same = one-number (R .number) (S .number) (R .tested) (S .tested)
-
-    accepted-only : R .number ≡ 0 → r ≡ s
-    accepted-only z =
-        ⊎-elim (λ h. answer-only (contents-good bs (R .number) (R .tested) z) j h r s (R .answer z h) (S .answer (sym same ∙ z) h))
-        (λ h. R .beyond z h ∙ sym (S .beyond (sym same ∙ z) h)) (split j (countOf bs))
-
-    refused-only : R .number ≢ 0 → r ≡ s
-    refused-only ne = R .refused ne ∙ sym (S .refused (λ z. ne (same ∙ z)) ∙ ap refusal (sym same))
-
-    pub one-body : r ≡ s
-    one-body = ⊎-elim accepted-only refused-only (same-or (R .number) 0)
+  -- ---- what the strict reading of a body answers
+  pub one-strict : (j : ℕ) (r s : Body) → ReadsStrict bs j r → ReadsStrict bs j s → r ≡ s
+  one-strict j r s R S =
+      let same = one-number (R .number) (S .number) (R .tested) (S .tested) in
+      ⊎-elim (λ z. one-body j r s (R .read z) (S .read (sym same ∙ z)))
+      (λ ne. R .refused ne ∙ ap refusal same ∙ sym (S .refused (λ z. ne (same ∙ z)))) (same-or (R .number) 0)

@@ -6,7 +6,7 @@ use lib.ListN.{length, length-append}
 use Rattle.exact.specs.declared.Amount.{Amount}
 use Rattle.exact.specs.declared.Amount.the-variants.{Zero, Some}
 use Rattle.lines_words.specs.Text.{letters, digits, signedText}
-use Rattle.lines.specs.Lines.{namedLine, bookLine, amountText, circuitLine, countsText, tableLine, refusedLine}
+use Rattle.lines.specs.Lines.{namedLine, bookLine, amountText, circuitLine, countsText, tableLine, refusedLine, refusedBodyLine}
 use Rattle.lines_words.proofs.Laws.Digits.{digits-length}
 
 -- an amount in its range: "a power from −2,000 to 2,000", "a phase c (0..7)"
@@ -53,3 +53,7 @@ table-length j live ties a h g m l = simp length-append (omega (arith, two j h, 
 pub refused-length : (n : ℕ) → n < 1000 → length (refusedLine n) ≤ 12
 unfolding refusedLine namedLine letters
 refused-length n h = simp length-append (omega (arith, digits-length 2 n h))
+
+pub refused-body-length : (j n : ℕ) → j < 100 → n < 1000 → length (refusedBodyLine j n) ≤ 15
+unfolding refusedBodyLine namedLine letters
+refused-body-length j n h l = simp length-append (omega (arith, two j h, digits-length 2 n l))

@@ -6,9 +6,9 @@ use native.Mathlib.Omega.{arith}
 use lib.ListN.{length, take}
 use Rattle.lines_words.specs.Overlay.{top}
 use Rattle.lines_words.proofs.Laws.Laid.{laid-length, laid-place, laid-front}
-use Rattle.listing.specs.Listing.{Listed}
+use Rattle.listing.specs.Listing.{ListedAs}
 
-module _ (bs xs ys : List ℕ) (r : ℕ) (L : Listed bs xs ys r) (room : 312 ≤ length xs) where
+module _ (Is : List ℕ → Type 0) (xs ys : List ℕ) (r : ℕ) (L : ListedAs Is xs ys r) (room : 312 ≤ length xs) where
   pub listed-within : r ≤ length ys
   listed-within = omega (arith, L .short, room, laid-length (L .laid), laid-place (L .laid) (omega (arith, L .short)))
 

@@ -2,7 +2,7 @@
 use mathlib.Core.Bool.{Bool, true, false, cond}
 use mathlib.Core.List.{List, _++_}
 use mathlib.Core.Logic.{_≢_, ⊎-elim}
-use mathlib.Core.Path.{_≡_, refl, sym, ap, subst, _∙_}
+use mathlib.Core.Path.{_≡_, refl, sym, ap, subst}
 use Prim.Native.Nat.{ℕ, zero, suc, _*_, _≤_, _<_}
 use native.Mathlib.Omega.{arith}
 use lib.Count.{ones, ones-le}
@@ -17,18 +17,20 @@ use Rattle.state.specs.Entry.{ties}
 use Rattle.state.specs.Normal as normal
 use Rattle.state.specs.Normal.{Normal}
 use Rattle.gates.specs.Near.{Near}
-use Rattle.contents.specs.Contents.{editionOf, countOf, widthOf, entryOf}
+use Rattle.contents.specs.Contents.{editionOf, countOf, widthOf, entryOf, contentsNumber}
 use Rattle.contents.proofs.Laws.Good.{good}
 use Rattle.body_bytes.specs.Body.{bodyFault}
 use Rattle.body_read.specs.Table.{tableOf}
 use Rattle.lines.specs.Lines.{bookLine, refusedLine}
-use Rattle.lines.proofs.Laws.Lengths.{InRange, book-length, circuit-length, table-length, refused-length}
-use Rattle.book.specs.declared.Body.{Body}
-use Rattle.book.specs.Book.{BookNumber, bytesOf, circuitBodyNumber}
-use Rattle.book.specs.Read.{refusal, tableBody, saidNumber, saidAmount, CircuitAnswer, TableAnswer, ReadsBody}
-use Rattle.book.proofs.Laws.Number.{contents-good}
-use Rattle.book.proofs.Laws.Only.{one-number}
-use Rattle.listing.specs.Listing.{tableAmount, bodyLine, bodyLines}
+use Rattle.lines.proofs.Laws.Lengths.{InRange, book-length, circuit-length, table-length, refused-length, refused-body-length}
+use Rattle.book_bodies.specs.declared.Body.{Body}
+use Rattle.book.specs.Book.{bytesOf}
+use Rattle.book_bodies.specs.Number.{circuitBodyNumber}
+use Rattle.book.specs.Read.{ReadsBody}
+use Rattle.book_bodies.specs.Answer.{refusal, tableBody, saidNumber, saidAmount, CircuitAnswer, TableAnswer}
+use Rattle.book_bodies.proofs.Laws.Circuit.{circuit-body-small}
+use Rattle.listing_line.specs.Line.{tableAmount, bodyLine}
+use Rattle.listing.specs.Listing.{bodyLines}
 
 -- ---- amounts
 circuit-range : (a : Amount) → Small a → Near a → InRange a
@@ -51,9 +53,9 @@ long : ℕ → Body → ℕ
 long j b = length (bodyLine j (b .said) (b .table))
 
 module _ (j : ℕ) (h : j < 16) where
-  refused-none : (k : ℕ) → long j (refusal k) ≤ 19
+  refused-body : (k : ℕ) → k ≤ 16 → long j (refusal k) ≤ 19
   unfolding long bodyLine
-  refused-none k = omega arith
+  refused-body k l = omega (arith, refused-body-length j k (omega (arith, h)) (omega (arith, l)))
 
   circuit-short : (ed n : ℕ) (bs : List ℕ) (b : Body) → CircuitAnswer ed n bs b → long j b ≤ 19
   unfolding long bodyLine
@@ -62,7 +64,7 @@ module _ (j : ℕ) (h : j < 16) where
       (λ (z : circuitBodyNumber ed n bs ≡ 0).
       let a = saidAmount (b .said) in
       subst (λ (c : Body). long j c ≤ 19) (sym (A .given z)) (omega (arith, circuit-length j a (omega arith) (circuit-range a (A .value z .small) (A .value z .near)))))
-      (λ (ne : circuitBodyNumber ed n bs ≢ 0). subst (λ (c : Body). long j c ≤ 19) (sym (A .refused ne)) (refused-none (circuitBodyNumber ed n bs)))
+      (λ (ne : circuitBodyNumber ed n bs ≢ 0). subst (λ (c : Body). long j c ≤ 19) (sym (A .refused ne)) (refused-body (circuitBodyNumber ed n bs) (circuit-body-small ed n bs)))
       (same-or (circuitBodyNumber ed n bs) 0)
 
   whole-short : (t : State) → Normal t → long j (tableBody t) ≤ 19
@@ -77,22 +79,22 @@ module _ (j : ℕ) (h : j < 16) where
       same c e l = subst (λ (c : Body). long j c ≤ 19) (sym e) l
 
       by : (f : Bool) → bodyFault n bs ≡ f → long j b ≤ 19
-      by true e = same (refusal 11) (A .fault e) (refused-none 11)
+      by true e = same (refusal 11) (A .fault e) (refused-body 11 (omega arith))
       by false e =
           ⊎-elim (λ (z : saidNumber (b .said) ≡ 0). same (tableBody (tableOf n bs)) (A .sound e (A .normal z)) (whole-short (tableOf n bs) (A .normal z)))
-          (λ (ne : saidNumber (b .said) ≢ 0). same (refusal 12) (A .broken e (λ t. ne (ap (λ (x : Body). saidNumber (x .said)) (A .sound e t)))) (refused-none 12))
+          (λ (ne : saidNumber (b .said) ≢ 0). same (refusal 12) (A .broken e (λ t. ne (ap (λ (x : Body). saidNumber (x .said)) (A .sound e t)))) (refused-body 12 (omega arith)))
           (same-or (saidNumber (b .said)) 0)
 
 -- ---- the listing
-module _ (bs : List ℕ) (k : ℕ) (B : BookNumber bs k) (z : k ≡ 0) where
+module _ (bs : List ℕ) (z : contentsNumber bs ≡ 0) where
   few : countOf bs ≤ 16
-  few = good bs (contents-good bs k B z) .count
+  few = good bs z .count
 
   line-short : (j : ℕ) (b : Body) → j < countOf bs → ReadsBody bs j b → long j b ≤ 19
   line-short j b h R =
-      let a = R .answer (one-number bs (R .number) k (R .tested) B ∙ z) h in
+      let a = R .answer z h in
       ⊎-elim (λ c. circuit-short j (omega (arith, few, h)) (editionOf bs) (widthOf bs j) (bytesOf bs j) b (a .circuit c))
-      (λ c. table-short j (omega (arith, few, h)) (widthOf bs j) (bytesOf bs j) b (a .table c)) (good bs (contents-good bs k B z) .body j h (entryOf bs j) refl .kind)
+      (λ c. table-short j (omega (arith, few, h)) (widthOf bs j) (bytesOf bs j) b (a .table c)) (good bs z .body j h (entryOf bs j) refl .kind)
 
   lines-short : (f : ℕ → Body) → ((j : ℕ) → j < countOf bs → ReadsBody bs j (f j)) → (n : ℕ) → n ≤ countOf bs → length (bodyLines n f) ≤ 19 * n
   unfolding bodyLines long

@@ -1,7 +1,7 @@
 -- The listing of a book grows by a line for each body: what is written so far, from the first line to the whole text. By the laws of writers one after the other.
 use mathlib.Core.Bool.{cond}
 use mathlib.Core.List.{List, _++_}
-use mathlib.Core.Logic.{_≢_, ⊎-elim}
+use mathlib.Core.Logic.{⊎-elim}
 use mathlib.Core.Path.{_≡_, refl, sym, ap, ap₂, _∙_, subst}
 use Prim.Native.Nat.{ℕ, zero, suc, _+_, _≤_, _<_}
 use native.Mathlib.Omega.{arith}
@@ -10,22 +10,21 @@ use borrow.Author.Tests.{eq-eqb, ne-eqb}
 use lib.Dec.{eqb}
 use lib.ListN.{length}
 use Rattle.exact.proofs.Laws.Sum.{split}
-use Rattle.contents.specs.Contents.{countOf}
+use Rattle.contents.specs.Contents.{countOf, contentsNumber}
 use Rattle.lines_words.specs.Overlay.{top, TextLaid}
-use Rattle.lines.specs.Lines.{bookLine, refusedLine}
+use Rattle.lines.specs.Lines.{bookLine}
 use Rattle.lines_words.proofs.Laws.Laid.{laid-none, laid-length, laid-more, laid-text}
-use Rattle.book.specs.Book.{BookNumber}
-use Rattle.book.specs.declared.Body.{Body}
-use Rattle.book.specs.Read.{refusal, ReadsBody}
+use Rattle.book_bodies.specs.declared.Body.{Body}
+use Rattle.book.specs.Read.{ReadsBody}
+use Rattle.book_bodies.specs.Answer.{refusal}
 use Rattle.contents.proofs.Laws.Good.{good}
-use Rattle.book.proofs.Laws.Number.{contents-good}
-use Rattle.book.proofs.Laws.Read.{reads-refused}
-use Rattle.listing.specs.Listing.{bodyLine, bodyLines, Listed}
-use Rattle.listing.proofs.Laws.Short.{listed-short, refused-short}
+use Rattle.listing_line.specs.Line.{bodyLine}
+use Rattle.listing.specs.Listing.{bodyLines}
+use Rattle.listing.specs.Inner.Bodies.{BodiesListed}
 
--- a good book has at most 16 bodies
-pub few : (bs : List ℕ) (k n : ℕ) → BookNumber bs k → k ≡ 0 → n ≡ countOf bs → n ≤ 16
-few bs k n B z e = omega (arith, e, good bs (contents-good bs k B z) .count)
+-- a book with good contents has at most 16 bodies
+pub few : (bs : List ℕ) (n : ℕ) → contentsNumber bs ≡ 0 → n ≡ countOf bs → n ≤ 16
+few bs n z e = omega (arith, e, good bs z .count)
 
 -- a writer leaves the area as short as it was
 pub narrow : {xs text ys : List ℕ} {at r : ℕ} → TextLaid xs at text ys r → length xs ≤ top → length ys ≤ top
@@ -91,35 +90,10 @@ module _ (bs xs : List ℕ) where
       laid = laid-text (sym text) (laid-more short (S .laid) l);
     }
 
-  -- behind the first line, all bodies of a good book are written
-  pub whole : (k j p : ℕ) (ys zs : List ℕ) (r : ℕ) → length xs ≤ top → BookNumber bs k → k ≡ 0 → j ≡ countOf bs
-      → TextLaid xs 0 (bookLine (countOf bs)) ys p → Sofar bs ys p j zs r → Listed bs xs zs r
-  whole k j p ys zs r short B z e l S = record {
-    text = bookLine (countOf bs) ++ bodyLines (countOf bs) (S .bodies);
-    listing = record {
-      number = k;
-      tested = B;
-      bodies = S .bodies;
-      read = λ i h. S .read i (omega (arith, h, e));
-      refused = λ ne. absurd (ne z);
-      listed = λ y. refl;
-    };
-    short = listed-short bs k B z (S .bodies) (λ i h. S .read i (omega (arith, h, e)));
+  -- behind the first line, all bodies are written
+  pub whole : (j p : ℕ) (ys zs : List ℕ) (r : ℕ) → length xs ≤ top → j ≡ countOf bs → TextLaid xs 0 (bookLine (countOf bs)) ys p → Sofar bs ys p j zs r → BodiesListed bs xs zs r
+  whole j p ys zs r short e l S = record {
+    bodies = S .bodies;
+    read = λ i h. S .read i (omega (arith, h, e));
     laid = laid-more short l (laid-text (ap (λ (n : ℕ). bodyLines n (S .bodies)) e) (S .laid));
-  }
-
-  -- a refused book is its single line
-  pub single : (k : ℕ) (ys : List ℕ) (r : ℕ) → k < 256 → BookNumber bs k → k ≢ 0 → TextLaid xs 0 (refusedLine k) ys r → Listed bs xs ys r
-  single k ys r h B ne l = record {
-    text = refusedLine k;
-    listing = record {
-      number = k;
-      tested = B;
-      bodies = λ j. refusal k;
-      read = λ j h. reads-refused bs j k (refusal k) B ne refl;
-      refused = λ h. refl;
-      listed = λ z. absurd (ne z);
-    };
-    short = refused-short k h;
-    laid = l;
   }

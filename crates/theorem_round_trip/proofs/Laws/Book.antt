@@ -15,7 +15,8 @@ use Rattle.contents_lay.proofs.Laws.Lay.{lay-lists}
 use Rattle.contents_lay.proofs.Laws.Laid.{length-laid}
 use Rattle.contents_lay.proofs.Laws.Round.{Round, round}
 use Rattle.body_fields.specs.Fields.{joined}
-use Rattle.book.specs.Book.{bytesOf, circuitBodyNumber, TableNumber, BodyNumber}
+use Rattle.book.specs.Book.{bytesOf, BodyNumber}
+use Rattle.book_bodies.specs.Number.{circuitBodyNumber, TableNumber}
 use Rattle.book.proofs.Laws.Number.{book-clear}
 use Rattle.theorem_round_trip.specs.Book.{laidBook, Fits, Holds}
 use Rattle.theorem_round_trip.proofs.Laws.Joined.{joined-length, joined-at}

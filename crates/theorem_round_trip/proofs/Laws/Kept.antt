@@ -12,10 +12,11 @@ use Rattle.state.specs.Normal.{Normal}
 use Rattle.body_pack.specs.Packed.{packedTable, unpacked}
 use Rattle.body_write.specs.Body as pack
 use Rattle.body_pack.proofs.Laws.Entry.{packed-entry}
-use Rattle.book.specs.declared.Body.{Body}
-use Rattle.book.specs.Book.{bytesOf, TableNumber}
-use Rattle.book.specs.Read.{tableBody, TableAnswer, ReadsBody}
-use Rattle.book.proofs.Laws.Only.{one-number}
+use Rattle.book_bodies.specs.declared.Body.{Body}
+use Rattle.book.specs.Book.{bytesOf}
+use Rattle.book_bodies.specs.Number.{TableNumber}
+use Rattle.book.specs.Read.{ReadsBody}
+use Rattle.book_bodies.specs.Answer.{tableBody, TableAnswer}
 use Rattle.theorem_round_trip.specs.Book.{Holds}
 use Rattle.theorem_round_trip.proofs.Laws.Back.{written-fine, written-table, written-normal}
 
@@ -33,8 +34,7 @@ module _ (t : State) (N : Normal t) where
     module _ (j : ℕ) (h : j < length ks) (kind : getD ks j 0 ≡ 2) (width : getD ws j 0 ≡ ones (t .live)) (body : bodies j ≡ pack.bodyBytes t) (r : Body) (R : ReadsBody bs j r) where
       answers : TableAnswer (ones (t .live)) (pack.bodyBytes t) r
       answers =
-          let z : R .number ≡ accepted = one-number bs (R .number) accepted (R .tested) (H .number) in
-          let A = R .answer z (omega (arith, H .count)) .table (H .kind j h ∙ kind) in
+          let A = R .answer (H .contents) (omega (arith, H .count)) .table (H .kind j h ∙ kind) in
           subst (λ (l : List ℕ). TableAnswer (ones (t .live)) l r) (H .body j h ∙ body)
           (subst (λ (n : ℕ). TableAnswer n (bytesOf bs j) r) (H .width j h ∙ width) A)
 

@@ -17,11 +17,11 @@ use Rattle.bits.proofs.Laws.Parity.{ones-total}
 use Rattle.gates.specs.Circuit.{circuitNumber}
 use Rattle.body_bytes.specs.Body.{tieCount, bodyFault}
 use Rattle.body_read.specs.Table.{formOf, tiesOf, tableOf}
-use Rattle.book.specs.declared.Body.{Body}
-use Rattle.book.specs.Book.{inputOf, outputOf, gatesOf, circuitBodyNumber, TableNumber}
-use Rattle.book.specs.Read.{saidAmount, CircuitAnswer, TableAnswer}
+use Rattle.book_bodies.specs.declared.Body.{Body}
+use Rattle.book_bodies.specs.Number.{inputOf, outputOf, gatesOf, circuitBodyNumber, TableNumber}
+use Rattle.book_bodies.specs.Answer.{saidAmount, CircuitAnswer, TableAnswer}
 use Rattle.lines.specs.Lines.{tableLine}
-use Rattle.listing.specs.Listing.{bodyLine}
+use Rattle.listing_line.specs.Line.{bodyLine}
 use Rattle.theorem_whole.specs.Text.{CircuitLine, stated}
 
 -- the mask of the n lowest bits has n of them

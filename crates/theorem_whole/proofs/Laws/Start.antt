@@ -9,14 +9,15 @@ use Rattle.bits.proofs.Laws.Bit.{same-or}
 use Rattle.state.specs.declared.State.{State}
 use Rattle.state.specs.Entry.{entry}
 use Rattle.state.specs.Normal.{Normal}
-use Rattle.contents.specs.Contents.{countOf, kindOf, widthOf}
+use Rattle.contents.specs.Contents.{countOf, kindOf, widthOf, contentsNumber}
 use Rattle.body_bytes.specs.Body.{bodyFault}
 use Rattle.body_read.specs.declared.Reading.{Reading}
 use Rattle.body_read.specs.Table.{tableOf}
 use Rattle.body_read.specs.Read.{Reads}
-use Rattle.book.specs.declared.Body.{Body}
+use Rattle.book_bodies.specs.declared.Body.{Body}
 use Rattle.book.specs.Book.{bytesOf}
-use Rattle.book.specs.Read.{saidNumber, TableAnswer, ReadsBody}
+use Rattle.book.specs.Read.{ReadsBody}
+use Rattle.book_bodies.specs.Answer.{saidNumber, TableAnswer}
 use Rattle.theorem_history.specs.Meaning.{ownMeaning}
 use Rattle.theorem_history.specs.History.{Reached, from-table}
 use Rattle.theorem_whole.specs.Text.{entryOf}
@@ -42,10 +43,10 @@ pub book-starts : (bs : List ℕ) (j : ℕ) (r : Body) → ReadsBody bs j r → 
     → Starts (widthOf bs j) (bytesOf bs j) (r .table)
 book-starts bs j r R l k e = starts (widthOf bs j) (bytesOf bs j) (r .table) fine (A .normal e) (ap (λ (s : Body). s .table) (A .sound fine (A .normal e)))
   where
-    tested : R .number ≡ accepted
+    tested : contentsNumber bs ≡ accepted
     tested =
-        ⊎-elim (λ (z : R .number ≡ accepted). z) (λ (ne : R .number ≢ accepted). absurd (ne (sym (ap (λ (s : Body). saidNumber (s .said)) (R .refused ne)) ∙ e)))
-        (same-or (R .number) accepted)
+        ⊎-elim (λ (z : contentsNumber bs ≡ accepted). z) (λ (ne : contentsNumber bs ≢ accepted). absurd (ne (sym (ap (λ (s : Body). saidNumber (s .said)) (R .refused ne)) ∙ e)))
+        (same-or (contentsNumber bs) accepted)
 
     A : TableAnswer (widthOf bs j) (bytesOf bs j) r
     A = R .answer tested l .table k

@@ -1,13 +1,10 @@
 -- No second result of any call for C: by the same of the call that it hands on.
 use mathlib.Core.List.{List}
 use mathlib.Core.Logic.{_≢_, ⊎-elim}
-use mathlib.Core.Path.{_≡_, refl, sym, ap, subst, _∙_}
+use mathlib.Core.Path.{_≡_, sym, ap, subst, _∙_}
 use Prim.Native.Nat.{ℕ}
 use Rattle.exact.specs.declared.Answer.{Answer}
-use Rattle.exact.specs.declared.Answer.the-variants.{Refused as NotGiven, Is}
-use lib.Count.{ones}
 use Rattle.bits.proofs.Laws.Bit.{same-or}
-use Rattle.state.specs.Entry.{ties}
 use Rattle.call_answers.specs.Answers.{EntryAt}
 use Rattle.theorem_history.proofs.Laws.Only.{one-entry}
 use Rattle.body_read.specs.declared.Reading.{Reading}
@@ -15,19 +12,12 @@ use Rattle.body_read.proofs.Laws.Only.{one-reading}
 use Rattle.body_write.specs.declared.Written.{Written}
 use Rattle.body_write.specs.Write.{BodyWritten}
 use Rattle.body_write.proofs.Laws.Only.{one-written}
-use Rattle.listing.specs.Listing.{tableAmount}
 use Rattle.circuit.proofs.Laws.Only.{one-amplitude}
-use Rattle.book.specs.declared.Said.{Said}
-use Rattle.book.specs.declared.Said.the-variants.{Refused, Circuit, Whole}
-use Rattle.book.specs.declared.Body.{Body}
-use Rattle.book.specs.Read.{saidNumber}
-use Rattle.book.proofs.Laws.Only.{one-body}
-use Rattle.topazfern.specs.Told.{Told, AnswerTold, AmplitudeTold, EntryTold, WriteTold, Shown, shown, ReadTold}
-
--- an answer is told in one way
-pub one-telling : (a : Answer) (t u v : Told) (n m : ℕ) → AnswerTold a t n u → AnswerTold a t m v → (n ≡ m) × (u ≡ v)
-one-telling (NotGiven k) t u v n m A B = (A .number ∙ sym (B .number), A .kept k refl ∙ sym (B .kept k refl))
-one-telling (Is x) t u v n m A B = (A .number ∙ sym (B .number), A .given x refl ∙ sym (B .given x refl))
+use Rattle.book_bodies.specs.declared.Body.{Body}
+use Rattle.book.proofs.Laws.Only.{one-body, one-strict}
+use Rattle.told.specs.Told.{Told, AnswerTold, Shown, BodyTold}
+use Rattle.told.proofs.Laws.Only.{one-telling, one-body-told}
+use Rattle.topazfern.specs.Calls.{AmplitudeTold, EntryTold, WriteTold, ReadTold, StrictReadTold}
 
 pub one-amplitude-told : (ed width input output : ℕ) (bs : List ℕ) (t u v : Told) (n m : ℕ) → AmplitudeTold ed width input output bs t n u → AmplitudeTold ed width input output bs t m v → (n ≡ m) × (u ≡ v)
 one-amplitude-told ed width input output bs t u v n m A B =
@@ -79,15 +69,11 @@ one-write width bs xs start n m p q ys zs A B = ⊎-elim given refused (same-or 
         (a .0 ∙ number ∙ sym (b .0), a .1 ∙ sym (b .1), a .2 ∙ sym (b .2))
 
 pub one-read : (bs : List ℕ) (j : ℕ) (t u v : Shown) (n m : ℕ) → ReadTold bs j t n u → ReadTold bs j t m v → (n ≡ m) × (u ≡ v)
-one-read bs j t u v n m A B = (A .number ∙ ap (λ (b : Body). saidNumber (b .said)) e ∙ sym (B .number), go (B .body .said) refl)
-  where
-    e : A .body ≡ B .body
-    e = one-body bs j (A .body) (B .body) (A .reads) (B .reads)
+one-read bs j t u v n m A B =
+    let e = one-body bs j (A .body) (B .body) (A .reads) (B .reads) in
+    one-body-told (B .body) t u v n m (subst (λ (b : Body). BodyTold b t n u) e (A .tells)) (B .tells)
 
-    go : (s : Said) → B .body .said ≡ s → u ≡ v
-    go (Refused k) f = A .kept k (ap (λ (b : Body). b .said) e ∙ f) ∙ sym (B .kept k f)
-    go (Circuit a) f = A .circuit a (ap (λ (b : Body). b .said) e ∙ f) ∙ sym (B .circuit a f)
-    go Whole f =
-        A .table (ap (λ (b : Body). b .said) e ∙ f)
-        ∙ ap (λ (b : Body). shown 2 (ones (b .table .live)) (ties (b .table)) (tableAmount (b .table))) e
-        ∙ sym (B .table f)
+pub one-strict-read : (bs : List ℕ) (j : ℕ) (t u v : Shown) (n m : ℕ) → StrictReadTold bs j t n u → StrictReadTold bs j t m v → (n ≡ m) × (u ≡ v)
+one-strict-read bs j t u v n m A B =
+    let e = one-strict bs j (A .body) (B .body) (A .reads) (B .reads) in
+    one-body-told (B .body) t u v n m (subst (λ (b : Body). BodyTold b t n u) e (A .tells)) (B .tells)

@@ -1,8 +1,4 @@
--- `topazfern_read` meets its contract: the case that the match found.
-use mathlib.Core.Path.{ap, ap₂, _∙_}
-use Prim.Native.Nat.{ℕ}
-use Rattle.topazfern.proofs.Laws.Tell.{read-refused, read-circuit, read-table}
-use Rattle.topazfern.specs.Told.{Told, told, three}
+-- `topazfern_read` meets its contract: what the reading answered is told.
 use borrow.Author.Needs.{needs}
 use Rattle.topazfern.proofs.topazfern_read.Statement.{statement}
 use Rattle.topazfern.proofs.topazfern_read.Tie as tie
@@ -10,49 +6,11 @@ use Rattle.topazfern.proofs.topazfern_read.Tie as tie
 read-requires : tie.Need-read-requires
 read-requires c κs = search needs
 
-enum-known-s : tie.Need-enum-known-s
-enum-known-s c = search needs
-
-enum-known-s-2 : tie.Need-enum-known-s-2
-enum-known-s-2 c = search needs
-
-tell-requires : tie.Need-tell-requires
-tell-requires c κs = search needs
-
-enum-told : tie.Need-enum-told
-enum-told c = search needs
-
-count-requires : tie.Need-count-requires
-count-requires c κs = search needs
-
-table-amount-requires : tie.Need-table-amount-requires
-table-amount-requires c κs = search needs
-
-tell-requires-2 : tie.Need-tell-requires-2
-tell-requires-2 c κs = search needs
+tell-body-requires : tie.Need-tell-body-requires
+tell-body-requires c κs = search needs
 
 returns : tie.Need-returns
-returns c = read-refused _ _ _ (c .before .before .before .before .read .ensures) _ _ (c .before .s .given .1)
-
-returns-2 : tie.Need-returns-2
-returns-2 c = read-circuit _ _ _ (c .before .before .before .before .before .before .before .before .read .ensures) _ _ _ (c .before .before .before .before .before .s2 .given .1) (ap (λ (u : Told). three 1 0 0 u) (c .tell .ensures))
-
-returns-3 : tie.Need-returns-3
-returns-3 c = read-table _ _ _ (c .before .before .before .before .before .before .before .before .before .read .ensures) _ _ (c .before .before .before .before .before .before .enum-told .given .1)
-    (ap₂ (λ (l : ℕ) (u : Told). three 2 l (c .before .before .before .before .before .before .before .before .before .read .result .table .ties .count) u) (c .before .before .before .before .before .count .ensures .is) (c .tell2 .ensures ∙ ap told (c .before .before .before .before .table-amount .ensures)))
+returns c = record { body = c .before .before .before .before .before .before .before .read .result; reads = c .before .before .before .before .before .before .before .read .ensures; tells = c .tell-body .ensures }
 
 pub topazfern-read-spec : {M : Type 1} → statement M
-topazfern-read-spec =
-    tie.close
-    (tie.spec
-    read-requires
-    enum-known-s
-    enum-known-s-2
-    tell-requires
-    enum-told
-    count-requires
-    table-amount-requires
-    tell-requires-2
-    returns
-    returns-2
-    returns-3)
+topazfern-read-spec = tie.close (tie.spec read-requires tell-body-requires returns)

@@ -1,0 +1,3 @@
+pub mod Circuit
+pub mod Table
+pub mod Only

@@ -1,0 +1,45 @@
+-- No second result: of a body's number and of what a body answers on its own. By the truth of each test.
+use mathlib.Core.Bool.{Bool, true, false}
+use mathlib.Core.List.{List}
+use mathlib.Core.Logic.{⊎-elim}
+use mathlib.Core.Path.{_≡_, refl, sym, ap, _∙_}
+use Prim.Native.Nat.{ℕ}
+use Rattle.exact.specs.declared.Answer.the-variants.{Is}
+use Rattle.exact.specs.Answer.{amountOf}
+use Rattle.bits.proofs.Laws.Bit.{same-or}
+use Rattle.state.specs.Normal.{Normal}
+use Rattle.circuit.proofs.Laws.Only.{one-amplitude}
+use Rattle.body_bytes.specs.Body.{bodyFault}
+use Rattle.body_read.specs.Table.{tableOf}
+use Rattle.book_bodies.specs.Number.{inputOf, outputOf, gatesOf, circuitBodyNumber, TableNumber}
+use Rattle.book_bodies.specs.Answer.{Body, saidNumber, saidAmount, circuitBody, CircuitAnswer, TableAnswer}
+
+-- ---- a table's body
+module _ (n : ℕ) (bs : List ℕ) where
+  pub one-table-number : (k m : ℕ) → TableNumber n bs k → TableNumber n bs m → k ≡ m
+  one-table-number k m K M = by (bodyFault n bs) refl
+    where
+      by : (f : Bool) → bodyFault n bs ≡ f → k ≡ m
+      by true h = K .fault h ∙ sym (M .fault h)
+      by false h =
+          ⊎-elim (λ z. z ∙ sym (M .sound h (K .normal z)))
+          (λ ne. let b : Normal (tableOf n bs) → ⊥ = λ t. ne (K .sound h t) in K .broken h b ∙ sym (M .broken h b)) (same-or k 0)
+
+  pub one-table-answer : (r s : Body) → TableAnswer n bs r → TableAnswer n bs s → r ≡ s
+  one-table-answer r s R S = by (bodyFault n bs) refl
+    where
+      by : (f : Bool) → bodyFault n bs ≡ f → r ≡ s
+      by true h = R .fault h ∙ sym (S .fault h)
+      by false h =
+          ⊎-elim (λ z. R .sound h (R .normal z) ∙ sym (S .sound h (R .normal z)))
+          (λ ne. let b : Normal (tableOf n bs) → ⊥ = λ t. ne (ap (λ (x : Body). saidNumber (x .said)) (R .sound h t)) in R .broken h b ∙ sym (S .broken h b))
+          (same-or (saidNumber (r .said)) 0)
+
+  -- ---- a circuit's body
+  pub one-circuit-answer : (ed : ℕ) (r s : Body) → CircuitAnswer ed n bs r → CircuitAnswer ed n bs s → r ≡ s
+  one-circuit-answer ed r s R S = ⊎-elim given (λ ne. R .refused ne ∙ sym (S .refused ne)) (same-or (circuitBodyNumber ed n bs) 0)
+    where
+      given : circuitBodyNumber ed n bs ≡ 0 → r ≡ s
+      given z =
+          let e = one-amplitude ed n (inputOf bs) (outputOf bs) (gatesOf bs) (Is (saidAmount (r .said))) (Is (saidAmount (s .said))) (R .value z) (S .value z) in
+          R .given z ∙ ap circuitBody (ap amountOf e) ∙ sym (S .given z)

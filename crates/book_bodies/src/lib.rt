@@ -1,0 +1,96 @@
+// A body of a book on its own: what it answers, and the number that refuses it. Inner: `refused` and the faults serve the book.
+ghost use mathlib.Core.Path.{_≡_};
+ghost use Rattle.book_bodies.specs.Number.{circuitBodyNumber, TableNumber};
+ghost use Rattle.book_bodies.specs.Inner.Said.{saidOf};
+ghost use Rattle.book_bodies.specs.Answer.{refusal, CircuitAnswer, TableAnswer};
+use exact::Amount;
+use exact::Answer;
+use state::State;
+
+// What reading a body says: a refusal's number, a circuit's amplitude, or that the table stands beside it.
+pub enum Said {
+    Refused(u8),
+    Circuit(Amount),
+    Whole,
+}
+
+// What reading a body answers; the table is the fresh one unless it was read.
+pub struct Body {
+    pub said: Said,
+    pub table: State,
+}
+
+// A circuit's answer, as it is said of a body.
+fn said_of(a: Answer) -> Said
+    ensures { λ r. ⌜ r ≡ saidOf a ⌝ }
+{
+    match a {
+        Answer::Refused(k) => Said::Refused(k),
+        Answer::Is(m) => Said::Circuit(m),
+    }
+}
+
+// A refusal: its number, and the fresh table.
+pub fn refused(k: u8) -> Body
+    ensures { λ r. ⌜ r ≡ refusal k ⌝ }
+{
+    Body {
+        said: Said::Refused(k),
+        table: state_steps::fresh(),
+    }
+}
+
+// What a circuit's body of this width answers in a book of this edition.
+pub fn circuit_body(edition: u8, part: &[u8], width: u8) -> Body
+    ensures { λ r. ⌜ CircuitAnswer edition width (now (part .entry)) r ⌝ }
+{
+    if part.len() < 8 {
+        return refused(exact::BAD_BODY);
+    }
+    let input = fields::read_u32(part, 0);
+    let output = fields::read_u32(part, 4);
+    let a = circuit::amplitude(edition, width, input, output, &part[8..]);
+    Body {
+        said: said_of(a),
+        table: state_steps::fresh(),
+    }
+}
+
+// What a table's body of this width answers.
+pub fn table_body(part: &[u8], width: u8) -> Body
+    ensures { λ r. ⌜ TableAnswer width (now (part .entry)) r ⌝ }
+{
+    let r = body_read::read(part, width);
+    let fault = r.refusal;
+    let t = r.table;
+    if fault != 0 {
+        return Body {
+            said: Said::Refused(fault),
+            table: t,
+        };
+    }
+    Body {
+        said: Said::Whole,
+        table: t,
+    }
+}
+
+// The number that refuses a circuit's body of this width in a book of this edition, 0 for none: its amplitude is not computed.
+pub fn circuit_fault(edition: u8, part: &[u8], width: u8) -> u8
+    ensures { λ r. ⌜ r ≡ circuitBodyNumber edition width (now (part .entry)) ⌝ }
+{
+    if part.len() < 8 {
+        return exact::BAD_BODY;
+    }
+    let input = fields::read_u32(part, 0);
+    let output = fields::read_u32(part, 4);
+    circuit::number(edition, width, input, output, &part[8..])
+}
+
+// The number that refuses a table's body of this width, 0 for none.
+pub fn table_fault(part: &[u8], width: u8) -> u8
+    ensures { λ r. ⌜ TableNumber width (now (part .entry)) r ⌝ }
+{
+    let r = body_read::read(part, width);
+    r.refusal
+}
