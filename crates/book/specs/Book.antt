@@ -6,17 +6,18 @@ use Prim.Native.Nat.{ℕ, _<_}
 use lib.ListN.{take, drop}
 use Rattle.exact.specs.Refusal.{accepted}
 use Rattle.contents.specs.Contents.{editionOf, countOf, kindOf, widthOf, lengthOf, startOf, contentsNumber}
-use Rattle.book_bodies.specs.Number.{circuitBodyNumber, TableNumber}
+use Rattle.book_bodies.specs.Number.{circuitBodyNumber, recordBodyNumber, TableNumber}
 
 -- the bytes of body j: "length (16 bits), start (32 bits)"
 unfoldable pub bytesOf : List ℕ → ℕ → List ℕ
 bytesOf bs j = take (lengthOf bs j) (drop (startOf bs j) bs)
 
 -- ---- the bodies and the book
--- k is the number of body j, 0 where it is not refused. "kind (1 circuit, 2 table)"
+-- k is the number of body j, 0 where it is not refused. "kind (1 circuit, 2 table)"; "Body kind 3 in edition 2"
 pub record BodyNumber (bs : List ℕ) (j k : ℕ) : Type 0 where
   pub circuit : kindOf bs j ≡ 1 → k ≡ circuitBodyNumber (editionOf bs) (widthOf bs j) (bytesOf bs j)
   pub table : kindOf bs j ≡ 2 → TableNumber (widthOf bs j) (bytesOf bs j) k
+  pub recorded : kindOf bs j ≡ 3 → k ≡ recordBodyNumber (widthOf bs j) (bytesOf bs j)
 
 -- none of the first n bodies is refused
 abbrev pub Clear : List ℕ → ℕ → Type 0

@@ -19,6 +19,9 @@ fn body_in(book: &[u8], j: usize) -> Body
     if e.kind == 1 {
         return book_bodies::circuit_body(edition, &book[from..to], e.width);
     }
+    if e.kind == 3 {
+        return book_bodies::record_body(&book[from..to], e.width);
+    }
     book_bodies::table_body(&book[from..to], e.width)
 }
 
@@ -33,6 +36,9 @@ fn fault_at(book: &[u8], j: usize) -> u8
     let to = from + e.length;
     if e.kind == 1 {
         return book_bodies::circuit_fault(edition, &book[from..to], e.width);
+    }
+    if e.kind == 3 {
+        return book_bodies::record_fault(&book[from..to], e.width);
     }
     book_bodies::table_fault(&book[from..to], e.width)
 }

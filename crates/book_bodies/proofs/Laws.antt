@@ -1,3 +1,4 @@
 pub mod Circuit
+pub mod Record
 pub mod Table
 pub mod Only

@@ -8,6 +8,7 @@ use lib.ListN.{length, drop}
 use Rattle.exact.specs.Refusal.{accepted, badBody, notNormal}
 use Rattle.fields.specs.Bytes.{number}
 use Rattle.gates.specs.Circuit.{circuitNumber}
+use Rattle.gates.specs.Record.{recordNumber}
 use Rattle.state.specs.Normal.{Normal}
 use Rattle.body_bytes.specs.Body.{bodyFault}
 use Rattle.body_read.specs.Table.{tableOf}
@@ -26,6 +27,15 @@ gatesOf bs = drop 8 bs
 -- 11: "body length wrong": no room for the two strings; "Circuits: 11, 6, 8, gates in order."; e is the edition of the book
 unfoldable pub circuitBodyNumber : ℕ → ℕ → List ℕ → ℕ
 circuitBodyNumber e n bs = cond (ltb (length bs) 8) badBody (circuitNumber e n (inputOf bs) (outputOf bs) (gatesOf bs))
+
+-- ---- a record's body: its input string stands where a circuit's does
+-- "holds an input string and a list of gates"
+abbrev pub recordGates : List ℕ → List ℕ
+recordGates bs = drop 4 bs
+
+-- 11: "body length wrong": no room for the string; "otherwise as circuits"
+unfoldable pub recordBodyNumber : ℕ → List ℕ → ℕ
+recordBodyNumber n bs = cond (ltb (length bs) 4) badBody (recordNumber n (inputOf bs) (recordGates bs))
 
 -- ---- a table's body
 -- k is the number of a table's body of width n. "Table body: 11 before 12."

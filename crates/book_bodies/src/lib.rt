@@ -1,16 +1,19 @@
 // A body of a book on its own: what it answers, and the number that refuses it. Inner: `refused` and the faults serve the book.
 ghost use mathlib.Core.Path.{_≡_};
-ghost use Rattle.book_bodies.specs.Number.{circuitBodyNumber, TableNumber};
-ghost use Rattle.book_bodies.specs.Inner.Said.{saidOf};
-ghost use Rattle.book_bodies.specs.Answer.{refusal, CircuitAnswer, TableAnswer};
+ghost use Rattle.book_bodies.specs.Number.{circuitBodyNumber, recordBodyNumber, TableNumber};
+ghost use Rattle.book_bodies.specs.Inner.Said.{saidOf, saidTold};
+ghost use Rattle.book_bodies.specs.Answer.{refusal, CircuitAnswer, RecordAnswer, TableAnswer};
 use exact::Amount;
 use exact::Answer;
+use exact::Chance;
+use exact::Told;
 use state::State;
 
-// What reading a body says: a refusal's number, a circuit's amplitude, or that the table stands beside it.
+// What reading a body says: a refusal's number, a circuit's amplitude, a record's chance, or that the table stands beside it.
 pub enum Said {
     Refused(u8),
     Circuit(Amount),
+    Record(Chance),
     Whole,
 }
 
@@ -27,6 +30,16 @@ fn said_of(a: Answer) -> Said
     match a {
         Answer::Refused(k) => Said::Refused(k),
         Answer::Is(m) => Said::Circuit(m),
+    }
+}
+
+// A record's answer, as it is said of a body.
+fn said_told(a: Told) -> Said
+    ensures { λ r. ⌜ r ≡ saidTold a ⌝ }
+{
+    match a {
+        Told::Refused(k) => Said::Refused(k),
+        Told::Is(c) => Said::Record(c),
     }
 }
 
@@ -52,6 +65,21 @@ pub fn circuit_body(edition: u8, part: &[u8], width: u8) -> Body
     let a = circuit::amplitude(edition, width, input, output, &part[8..]);
     Body {
         said: said_of(a),
+        table: state_steps::fresh(),
+    }
+}
+
+// What a record's body of this width answers.
+pub fn record_body(part: &[u8], width: u8) -> Body
+    ensures { λ r. ⌜ RecordAnswer width (now (part .entry)) r ⌝ }
+{
+    if part.len() < 4 {
+        return refused(exact::BAD_BODY);
+    }
+    let input = fields::read_u32(part, 0);
+    let a = record::chance_of(width, input, &part[4..]);
+    Body {
+        said: said_told(a),
         table: state_steps::fresh(),
     }
 }
@@ -85,6 +113,17 @@ pub fn circuit_fault(edition: u8, part: &[u8], width: u8) -> u8
     let input = fields::read_u32(part, 0);
     let output = fields::read_u32(part, 4);
     circuit::number(edition, width, input, output, &part[8..])
+}
+
+// The number that refuses a record's body of this width, 0 for none: its chance is not computed.
+pub fn record_fault(part: &[u8], width: u8) -> u8
+    ensures { λ r. ⌜ r ≡ recordBodyNumber width (now (part .entry)) ⌝ }
+{
+    if 4 <= part.len() {
+        let input = fields::read_u32(part, 0);
+        return record::number(width, input, &part[4..]);
+    }
+    exact::BAD_BODY
 }
 
 // The number that refuses a table's body of this width, 0 for none.

@@ -1,16 +1,19 @@
-// The number that refuses a circuit, found without running it: 9 for its edition, then 11, 6, 8, then gate by gate.
+// The number that refuses a circuit, found without running it: 9 for its edition, then 11, 6, 8, then item by item, then its blocks.
 ghost use mathlib.Core.Bool.{true};
 ghost use mathlib.Core.Path.{_≡_};
 ghost use Prim.Native.Nat.{ℕ, _+_, _*_, _≤_};
 ghost use lib.ListN.{length};
+ghost use Rattle.blocks.specs.Expansion.{itemCount};
 ghost use Rattle.gates.specs.Read.{gateRead};
-ghost use Rattle.gates.specs.Circuit.{numberOf, gateAt, gateCount, gatesNumber, circuitNumber};
+ghost use Rattle.gates.specs.Circuit.{numberOf, itemAt, gatesNumber, itemsNumber, circuitNumber};
+ghost use Rattle.gates.specs.Record.{recordNumber};
+ghost use Rattle.circuit_number.specs.Inner.Tested.{testedNumber};
 use gates::Reading;
 
-// Gate `j` of the bytes, read on so many wires in a dialect, which is the edition of a circuit.
-fn gate_at(dialect: u8, gates: &[u8], j: usize, width: u8) -> Reading
+// Item `j` of the bytes, read on so many wires in a dialect, which is the edition of a circuit.
+fn item_at(dialect: u8, gates: &[u8], j: usize, width: u8) -> Reading
     requires { ⌜ 3 * j + 3 ≤ length (now gates) ⌝ }
-    ensures { λ r. ⌜ r ≡ gateAt dialect width (now (gates .entry)) j ⌝ }
+    ensures { λ r. ⌜ r ≡ itemAt dialect width (now (gates .entry)) j ⌝ }
 {
     gates::read(
         dialect,
@@ -21,24 +24,26 @@ fn gate_at(dialect: u8, gates: &[u8], j: usize, width: u8) -> Reading
     )
 }
 
-// The number of a reading, 0 where it is a gate.
+// The number of a reading, 0 where it is a gate or a mark.
 fn number_of(g: Reading) -> u8
     ensures { λ r. ⌜ r ≡ numberOf g ⌝ }
 {
     match g {
         Reading::Refused(n) => n,
         Reading::Is(_) => 0,
+        Reading::Opens(_) => 0,
+        Reading::Closes => 0,
     }
 }
 
-// The number of the first gate that is refused, 0 where none is, gate by gate.
+// The number of the first item that is refused, 0 where none is, item by item.
 fn first_refusal(dialect: u8, gates: &[u8], width: u8) -> u8
-    ensures { λ r. ⌜ r ≡ gatesNumber dialect width (now (gates .entry)) (gateCount (now (gates .entry))) ⌝ }
+    ensures { λ r. ⌜ r ≡ gatesNumber dialect width (now (gates .entry)) (itemCount (now (gates .entry))) ⌝ }
 {
     let count = gates.len() / 3;
     let mut j: usize = 0;
     while j < count {
-        let n = number_of(gate_at(dialect, gates, j, width));
+        let n = number_of(item_at(dialect, gates, j, width));
         if n != 0 {
             return n;
         }
@@ -88,10 +93,10 @@ fn two_fine(code: u8, first: u8, second: u8, width: u8) -> u32
     1
 }
 
-// 0 where gate `j` of the bytes is not refused, and else 1.
+// 0 where item `j` of the bytes is a gate that is not refused, and else 1.
 fn refused_at(gates: &[u8], j: usize, width: u8) -> u32
     requires { ⌜ 3 * j + 3 ≤ length (now gates) ⌝ }
-    ensures { λ r. ⌜ (r ≡ 0 → (d : ℕ) → numberOf (gateAt d width (now (gates .entry)) j) ≡ 0) ⌝ }
+    ensures { λ r. ⌜ (r ≡ 0 → (d : ℕ) → numberOf (itemAt d width (now (gates .entry)) j) ≡ 0) ⌝ }
 {
     let code = gates[3 * j];
     let first = gates[3 * j + 1];
@@ -100,9 +105,9 @@ fn refused_at(gates: &[u8], j: usize, width: u8) -> u32
     1 - fine
 }
 
-// Whether no gate is refused, without a branch for each gate.
+// Whether every item is a gate that is not refused, without a branch for each.
 fn all_fine(gates: &[u8], width: u8) -> bool
-    ensures { λ r. ⌜ (r ≡ true → (d : ℕ) → gatesNumber d width (now (gates .entry)) (gateCount (now (gates .entry))) ≡ 0) ⌝ }
+    ensures { λ r. ⌜ (r ≡ true → (d : ℕ) → gatesNumber d width (now (gates .entry)) (itemCount (now (gates .entry))) ≡ 0) ⌝ }
 {
     let count = gates.len() / 3;
     let mut bad: u32 = 0;
@@ -114,23 +119,26 @@ fn all_fine(gates: &[u8], width: u8) -> bool
     bad == 0
 }
 
-// The number of the first gate that is refused, 0 where none is.
-fn gates_number(dialect: u8, gates: &[u8], width: u8) -> u8
-    ensures { λ r. ⌜ r ≡ gatesNumber dialect width (now (gates .entry)) (gateCount (now (gates .entry))) ⌝ }
+// The number of the items in order, then of their blocks. Where every item is a gate there is no mark.
+fn items_number(dialect: u8, gates: &[u8], width: u8) -> u8
+    requires { ⌜ itemCount (now gates) ≤ 4096 ⌝ }
+    ensures { λ r. ⌜ r ≡ itemsNumber dialect width (now (gates .entry)) ⌝ }
 {
     if all_fine(gates, width) {
         return 0;
     }
-    first_refusal(dialect, gates, width)
+    let item = first_refusal(dialect, gates, width);
+    let block = blocks::number(gates);
+    if item != 0 {
+        return item;
+    }
+    block
 }
 
-// The number of a circuit of an edition: 9, 11, 6, 8, gates in order.
-pub fn number(edition: u8, width: u8, input: u32, output: u32, gates: &[u8]) -> u8
-    ensures { λ r. ⌜ r ≡ circuitNumber edition width input output (now (gates .entry)) ⌝ }
+// The number of what stands in a dialect: 11, 6, 8, gates and marks in order, blocks.
+fn tested(dialect: u8, width: u8, input: u32, output: u32, gates: &[u8]) -> u8
+    ensures { λ r. ⌜ r ≡ testedNumber dialect width input output (now (gates .entry)) ⌝ }
 {
-    if !editions::good_edition(edition) {
-        return exact::BAD_HEADER;
-    }
     if gates.len() % 3 != 0 {
         return exact::BAD_BODY;
     }
@@ -150,5 +158,22 @@ pub fn number(edition: u8, width: u8, input: u32, output: u32, gates: &[u8]) -> 
     if strings <= output as u64 {
         return exact::BAD_STRING;
     }
-    gates_number(edition, gates, width)
+    items_number(dialect, gates, width)
+}
+
+// The number of a circuit of an edition: 9 for the edition, before its own.
+pub fn number(edition: u8, width: u8, input: u32, output: u32, gates: &[u8]) -> u8
+    ensures { λ r. ⌜ r ≡ circuitNumber edition width input output (now (gates .entry)) ⌝ }
+{
+    if !editions::good_edition(edition) {
+        return exact::BAD_HEADER;
+    }
+    tested(edition, width, input, output, gates)
+}
+
+// The number of a record: as a circuit's, in its own dialect and with one string.
+pub fn record(width: u8, input: u32, gates: &[u8]) -> u8
+    ensures { λ r. ⌜ r ≡ recordNumber width input (now (gates .entry)) ⌝ }
+{
+    tested(gates::RECORD, width, input, 0, gates)
 }

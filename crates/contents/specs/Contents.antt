@@ -1,5 +1,5 @@
 -- A book's header and contents as its bytes state them, and the number that refuses them: "Contents first, then bodies".
-use mathlib.Core.Bool.{Bool, false, not, _||_}
+use mathlib.Core.Bool.{Bool, false, not, _&&_, _||_}
 use mathlib.Core.List.{List, [], _∷_}
 use Prim.Native.Nat.{ℕ, zero, suc, _+_, _*_}
 use lib.Dec.{eqb, ltb}
@@ -54,17 +54,17 @@ headerFault bs =
     || not (goodEdition (editionOf bs))
     || ltb 16 (countOf bs)
 
--- "kind (1 circuit, 2 table)"
-unfoldable pub goodKind : ℕ → Bool
-goodKind k = eqb k 1 || eqb k 2
+-- "kind (1 circuit, 2 table)"; "Body kind 3 in edition 2"
+unfoldable pub goodKind : ℕ → ℕ → Bool
+goodKind ed k = eqb k 1 || eqb k 2 || (eqb ed 2 && eqb k 3)
 
--- 10: "kind, start, end beyond the book", of an entry whose body is to start at a place of a book of so many bytes
-unfoldable pub faultAt : Entry → ℕ → ℕ → Bool
-faultAt e from size = not (goodKind (e .kind)) || not (eqb (e .start) from) || ltb size (e .start + e .length)
+-- 10: "kind, start, end beyond the book", of an entry whose body is to start at a place of a book of an edition and so many bytes
+unfoldable pub faultAt : ℕ → Entry → ℕ → ℕ → Bool
+faultAt ed e from size = not (goodKind ed (e .kind)) || not (eqb (e .start) from) || ltb size (e .start + e .length)
 
 -- entry j of a book is refused
 abbrev pub entryFault : List ℕ → ℕ → Bool
-entryFault bs j = faultAt (entryOf bs j) (bodyStart bs j) (length bs)
+entryFault bs j = faultAt (editionOf bs) (entryOf bs j) (bodyStart bs j) (length bs)
 
 -- 10: "contents too short, kind, start, end beyond the book, last end (with no body, the contents' end) not the book's end"
 unfoldable pub contentsFault : List ℕ → Bool

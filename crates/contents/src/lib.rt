@@ -74,21 +74,27 @@ fn header_fault(bs: &[u8]) -> bool
     count(bs) > exact::MOST_BODIES
 }
 
-// Whether a kind is one of the two.
-pub fn good_kind(kind: u8) -> bool
-    ensures { λ r. ⌜ r ≡ goodKind kind ⌝ }
+// Whether a kind is one of the two, or a record's in edition 2.
+pub fn good_kind(edition: u8, kind: u8) -> bool
+    ensures { λ r. ⌜ r ≡ goodKind edition kind ⌝ }
 {
     if kind == 1 {
         return true;
     }
-    kind == 2
+    if kind == 2 {
+        return true;
+    }
+    if edition != editions::SECOND {
+        return false;
+    }
+    kind == 3
 }
 
-// Whether an entry is refused whose body is to start at a place of a book of so many bytes.
-fn fault_at(e: Entry, from: usize, size: usize) -> bool
-    ensures { λ r. ⌜ r ≡ faultAt e from size ⌝ }
+// Whether an entry is refused whose body is to start at a place of a book of an edition and so many bytes.
+fn fault_at(edition: u8, e: Entry, from: usize, size: usize) -> bool
+    ensures { λ r. ⌜ r ≡ faultAt edition e from size ⌝ }
 {
-    if !good_kind(e.kind) {
+    if !good_kind(edition, e.kind) {
         return true;
     }
     if e.start != from {
@@ -112,11 +118,12 @@ pub fn test(bs: &[u8]) -> u8
     if bs.len() < first {
         return exact::BAD_CONTENTS;
     }
+    let edition = edition(bs);
     let mut at = first;
     let mut j = 0usize;
     while j < n {
         let e = entry_at(bs, j);
-        if fault_at(e, at, bs.len()) {
+        if fault_at(edition, e, at, bs.len()) {
             return exact::BAD_CONTENTS;
         }
         at += e.length;

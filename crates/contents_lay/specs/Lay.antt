@@ -37,21 +37,21 @@ laidBytes ed ks ws ls = headerBytes ed (length ks) ++ entriesBytes ks ws ls (len
 unfoldable pub tooMany : List ℕ → List ℕ → List ℕ → Bool
 tooMany ks ws ls = ltb 16 (length ks) || ltb 16 (length ws) || ltb 16 (length ls)
 
--- kind i of a list is neither of the two
-abbrev pub badKind : List ℕ → ℕ → Bool
-badKind ks i = not (goodKind (getD ks i 0))
+-- kind i of a list is none of an edition's
+abbrev pub badKind : ℕ → List ℕ → ℕ → Bool
+badKind ed ks i = not (goodKind ed (getD ks i 0))
 
 -- 10: "lists to lay unequal, bad kind, or total above 60,000"
-unfoldable pub badLists : List ℕ → List ℕ → List ℕ → Bool
-badLists ks ws ls =
-    not (eqb (length ws) (length ks)) || not (eqb (length ls) (length ks)) || anyBelow (length ks) (badKind ks) || ltb 60000 (laidStart ls (length ls))
+unfoldable pub badLists : ℕ → List ℕ → List ℕ → List ℕ → Bool
+badLists ed ks ws ls =
+    not (eqb (length ws) (length ks)) || not (eqb (length ls) (length ks)) || anyBelow (length ks) (badKind ed ks) || ltb 60000 (laidStart ls (length ls))
 
 -- "Writers: 12, 9, 10, 13", in an area of so many bytes; "9 for an edition other than 1 or 2"; 13: "lent area too short for what is to be written"
 unfoldable pub layNumber : ℕ → ℕ → List ℕ → List ℕ → List ℕ → ℕ
 layNumber room ed ks ws ls =
     first
     ((not (goodEdition ed) gives badHeader)
-    ∷ (tooMany ks ws ls gives badHeader) ∷ (badLists ks ws ls gives badContents)
+    ∷ (tooMany ks ws ls gives badHeader) ∷ (badLists ed ks ws ls gives badContents)
     ∷ (ltb room (4 + 8 * length ks) gives areaShort) ∷ [])
 
 -- one thing where a number refuses nothing, another where it refuses

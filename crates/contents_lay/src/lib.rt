@@ -13,13 +13,13 @@ pub struct Written {
     pub bytes: usize,
 }
 
-// Whether some kind is neither of the two.
-fn bad_kind(kinds: &[u8]) -> bool
-    ensures { λ r. ⌜ r ≡ anyBelow (length (now (kinds .entry))) (badKind (now (kinds .entry))) ⌝ }
+// Whether some kind is none of an edition's.
+fn bad_kind(edition: u8, kinds: &[u8]) -> bool
+    ensures { λ r. ⌜ r ≡ anyBelow (length (now (kinds .entry))) (badKind edition (now (kinds .entry))) ⌝ }
 {
     let mut i = 0usize;
     while i < kinds.len() {
-        if !contents::good_kind(kinds[i]) {
+        if !contents::good_kind(edition, kinds[i]) {
             return true;
         }
         i += 1;
@@ -64,7 +64,7 @@ fn lay_number(room: usize, edition: u8, kinds: &[u8], widths: &[u8], lengths: &[
     if lengths.len() != n {
         return exact::BAD_CONTENTS;
     }
-    if bad_kind(kinds) {
+    if bad_kind(edition, kinds) {
         return exact::BAD_CONTENTS;
     }
     if book_size(lengths) > exact::MOST_BYTES {

@@ -14,7 +14,7 @@ use Rattle.exact.specs.Refusal.{accepted, badBody, notNormal}
 use Rattle.exact.specs.Sum.{total}
 use Rattle.bits.specs.Mask.{bit}
 use Rattle.gates.specs.Matrix.{IsAmplitude}
-use Rattle.gates.specs.Circuit.{gateList, gateCount}
+use Rattle.gates.specs.Circuit.{gatesOf as meant}
 use Rattle.contents.specs.Contents.{editionOf, countOf, kindOf, widthOf, contentsNumber}
 use Rattle.body_bytes.specs.Body.{markOf, phaseOf, powerOf, turnOf, rowOf, tieCount, maskOf, sideOf, bodyFault}
 use Rattle.book.specs.Book.{bytesOf}
@@ -26,7 +26,7 @@ use Rattle.lines.specs.Lines.{bookLine, circuitLine, tableLine, refusedLine, re
 pub record CircuitLine (e n : ℕ) (bs : List ℕ) (j : ℕ) (line : List ℕ) : Type 0 where
   pub amount : Amount
   pub small : Small amount
-  pub value : IsAmplitude n (gateList e n (gatesOf bs) (gateCount (gatesOf bs))) (inputOf bs) (outputOf bs) amount
+  pub value : IsAmplitude n (meant e n (gatesOf bs)) (inputOf bs) (outputOf bs) amount
   pub text : line ≡ circuitLine j amount
 
 -- ---- a table's line, and what the table's bytes mean

@@ -11,9 +11,9 @@ use Rattle.contents.specs.declared.Entry.{Entry}
 use Rattle.contents.specs.Contents.{editionOf, countOf, kindOf, widthOf, entryOf, contentsNumber}
 use Rattle.contents.proofs.Laws.Good.{good}
 use Rattle.book.specs.Book.{bytesOf, BodyNumber, Clear, BookNumber}
-use Rattle.book_bodies.specs.Number.{circuitBodyNumber, TableNumber}
+use Rattle.book_bodies.specs.Number.{circuitBodyNumber, recordBodyNumber, TableNumber}
 use Rattle.book_bodies.specs.declared.Body.{Body}
-use Rattle.book_bodies.specs.Answer.{CircuitAnswer, TableAnswer, BodyAnswer}
+use Rattle.book_bodies.specs.Answer.{CircuitAnswer, RecordAnswer, TableAnswer, BodyAnswer}
 
 -- ---- the part of the book that is lent
 part-law : (bs : List ℕ) (j : ℕ) (e : Entry) → e ≡ entryOf bs j → take (e .start + e .length - e .start) (drop (e .start) bs) ≡ bytesOf bs j
@@ -24,10 +24,13 @@ part-law bs j e is =
 
 -- ---- a body by its kind
 pub answer-circuit : (ed kind n : ℕ) (bs : List ℕ) (r : Body) → kind ≡ 1 → CircuitAnswer ed n bs r → BodyAnswer ed kind n bs r
-answer-circuit ed kind n bs r k a = record { circuit = λ q. a; table = λ q. absurd (omega (arith, k, q)) }
+answer-circuit ed kind n bs r k a = record { circuit = λ q. a; table = λ q. absurd (omega (arith, k, q)); recorded = λ q. absurd (omega (arith, k, q)) }
 
-pub answer-table : (ed kind n : ℕ) (bs : List ℕ) (r : Body) → kind ≢ 1 → TableAnswer n bs r → BodyAnswer ed kind n bs r
-answer-table ed kind n bs r k a = record { circuit = λ q. absurd (k q); table = λ q. a }
+pub answer-record : (ed kind n : ℕ) (bs : List ℕ) (r : Body) → kind ≡ 3 → RecordAnswer n bs r → BodyAnswer ed kind n bs r
+answer-record ed kind n bs r k a = record { circuit = λ q. absurd (omega (arith, k, q)); table = λ q. absurd (omega (arith, k, q)); recorded = λ q. a }
+
+pub answer-table : (ed kind n : ℕ) (bs : List ℕ) (r : Body) → kind ≢ 1 → kind ≢ 3 → TableAnswer n bs r → BodyAnswer ed kind n bs r
+answer-table ed kind n bs r k m a = record { circuit = λ q. absurd (k q); table = λ q. a; recorded = λ q. absurd (m q) }
 
 -- the answer to the part of an entry, as the book's
 pub answer-at : (bs : List ℕ) (j ed : ℕ) (e : Entry) (r : Body) → ed ≡ editionOf bs → e ≡ entryOf bs j → BodyAnswer ed (e .kind) (e .width) (take (e .start + e .length - e .start) (drop (e .start) bs)) r
@@ -42,12 +45,21 @@ pub number-circuit : (bs : List ℕ) (j ed : ℕ) (e : Entry) (k : ℕ) → ed �
 number-circuit bs j ed e k states is one a = record {
   circuit = λ c. a ∙ ap₂ (circuitBodyNumber ed) (ap (λ (x : Entry). x .width) is) (part-law bs j e is) ∙ ap (λ (v : ℕ). circuitBodyNumber v (widthOf bs j) (bytesOf bs j)) states;
   table = λ c. absurd (let q : e .kind ≡ 2 = ap (λ (x : Entry). x .kind) is ∙ c in omega (arith, one, q));
+  recorded = λ c. absurd (let q : e .kind ≡ 3 = ap (λ (x : Entry). x .kind) is ∙ c in omega (arith, one, q));
 }
 
-pub number-table : (bs : List ℕ) (j : ℕ) (e : Entry) (k : ℕ) → e ≡ entryOf bs j → e .kind ≢ 1 → TableNumber (e .width) (take (e .start + e .length - e .start) (drop (e .start) bs)) k → BodyNumber bs j k
-number-table bs j e k is not a = record {
+pub number-record : (bs : List ℕ) (j : ℕ) (e : Entry) (k : ℕ) → e ≡ entryOf bs j → e .kind ≡ 3 → k ≡ recordBodyNumber (e .width) (take (e .start + e .length - e .start) (drop (e .start) bs)) → BodyNumber bs j k
+number-record bs j e k is three a = record {
+  circuit = λ c. absurd (let q : e .kind ≡ 1 = ap (λ (x : Entry). x .kind) is ∙ c in omega (arith, three, q));
+  table = λ c. absurd (let q : e .kind ≡ 2 = ap (λ (x : Entry). x .kind) is ∙ c in omega (arith, three, q));
+  recorded = λ c. a ∙ ap₂ recordBodyNumber (ap (λ (x : Entry). x .width) is) (part-law bs j e is);
+}
+
+pub number-table : (bs : List ℕ) (j : ℕ) (e : Entry) (k : ℕ) → e ≡ entryOf bs j → e .kind ≢ 1 → e .kind ≢ 3 → TableNumber (e .width) (take (e .start + e .length - e .start) (drop (e .start) bs)) k → BodyNumber bs j k
+number-table bs j e k is not nor a = record {
   circuit = λ c. absurd (not (ap (λ (x : Entry). x .kind) is ∙ c));
   table = λ c. subst (λ (x : Entry). TableNumber (x .width) (bytesOf bs j) k) is (subst (λ (l : List ℕ). TableNumber (e .width) l k) (part-law bs j e is) a);
+  recorded = λ c. absurd (nor (ap (λ (x : Entry). x .kind) is ∙ c));
 }
 
 -- ---- the number of the book

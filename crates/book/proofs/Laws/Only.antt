@@ -12,14 +12,15 @@ use Rattle.book.specs.Book.{bytesOf, BodyNumber, Clear, Refuses, BodiesN
 use Rattle.book.specs.Read.{ReadsBody, ReadsStrict}
 use Rattle.book_bodies.specs.declared.Body.{Body}
 use Rattle.book_bodies.specs.Answer.{refusal, BodyAnswer}
-use Rattle.book_bodies.proofs.Laws.Only.{one-table-number, one-table-answer, one-circuit-answer}
+use Rattle.book_bodies.proofs.Laws.Only.{one-table-number, one-table-answer, one-circuit-answer, one-record-answer}
 
 module _ (bs : List ℕ) where
   -- ---- a body's number, where the contents are good
   module _ (z : contentsNumber bs ≡ 0) where
     pub body-number : (j k m : ℕ) → j < countOf bs → BodyNumber bs j k → BodyNumber bs j m → k ≡ m
     body-number j k m h K M =
-        ⊎-elim (λ c. K .circuit c ∙ sym (M .circuit c)) (λ c. one-table-number (widthOf bs j) (bytesOf bs j) k m (K .table c) (M .table c))
+        ⊎-elim (λ c. K .circuit c ∙ sym (M .circuit c))
+        (λ o. ⊎-elim (λ c. one-table-number (widthOf bs j) (bytesOf bs j) k m (K .table c) (M .table c)) (λ c. K .recorded (c .1) ∙ sym (M .recorded (c .1))) o)
         (good bs z .body j h (entryOf bs j) refl .kind)
 
     -- a body that is refused is not among those that are clear
@@ -50,7 +51,8 @@ module _ (bs : List ℕ) where
       → BodyAnswer (editionOf bs) (kindOf bs j) (widthOf bs j) (bytesOf bs j) s → r ≡ s
   answer-only z j h r s a b =
       ⊎-elim (λ c. one-circuit-answer (widthOf bs j) (bytesOf bs j) (editionOf bs) r s (a .circuit c) (b .circuit c))
-      (λ c. one-table-answer (widthOf bs j) (bytesOf bs j) r s (a .table c) (b .table c)) (good bs z .body j h (entryOf bs j) refl .kind)
+      (λ o. ⊎-elim (λ c. one-table-answer (widthOf bs j) (bytesOf bs j) r s (a .table c) (b .table c))
+      (λ c. one-record-answer (widthOf bs j) (bytesOf bs j) r s (a .recorded (c .1)) (b .recorded (c .1))) o) (good bs z .body j h (entryOf bs j) refl .kind)
 
   pub one-body : (j : ℕ) (r s : Body) → ReadsBody bs j r → ReadsBody bs j s → r ≡ s
   one-body j r s R S =

@@ -1,7 +1,7 @@
 -- `body_in` meets its contract: good contents keep the part within the book, and the entry says its kind.
 use borrow.Author.Needs.{needs}
 use native.Mathlib.Omega.{arith}
-use Rattle.book.proofs.Laws.Number.{entry-within, answer-circuit, answer-table, answer-at}
+use Rattle.book.proofs.Laws.Number.{entry-within, answer-circuit, answer-record, answer-table, answer-at}
 use Rattle.book.proofs.body_in.Statement.{statement}
 use Rattle.book.proofs.body_in.Tie as tie
 
@@ -39,6 +39,28 @@ returns c =
     let e = c .before .before .before .before .before .entry-at in
     answer-at (a .book .now) (a .j) (d .result) (e .result) (c .circuit-body .result) (d .ensures) (e .ensures) (answer-circuit _ _ _ _ _ (c .before .before .if1 .taken) (c .circuit-body .ensures))
 
+sub-record-body : tie.Need-sub-record-body
+sub-record-body c = search needs
+
+part-record-body-start : tie.Need-part-record-body-start
+part-record-body-start c = search needs
+
+part-record-body-end : tie.Need-part-record-body-end
+part-record-body-end c =
+    let s = c .before .before .before .before .before .before .before .before in
+    let e = c .before .before .before .before .before .entry-at in
+    entry-within (s .args .book .now) (s .args .j) (e .result) (s .pre .0) (s .pre .1) (e .ensures) .0
+
+record-body-requires : tie.Need-record-body-requires
+record-body-requires c κs = search needs
+
+returns-2 : tie.Need-returns-2
+returns-2 c =
+    let a = c .before .before .before .before .before .before .before .before .before .before .args in
+    let d = c .before .before .before .before .before .before .before .before .edition in
+    let e = c .before .before .before .before .before .before .before .entry-at in
+    answer-at (a .book .now) (a .j) (d .result) (e .result) (c .record-body .result) (d .ensures) (e .ensures) (answer-record _ _ _ _ _ (c .before .before .if2 .taken) (c .record-body .ensures))
+
 sub-table-body : tie.Need-sub-table-body
 sub-table-body c = search needs
 
@@ -47,19 +69,19 @@ part-table-body-start c = search needs
 
 part-table-body-end : tie.Need-part-table-body-end
 part-table-body-end c =
-    let s = c .before .before .before .before .before .before in
-    let e = c .before .before .before .entry-at in
+    let s = c .before .before .before .before .before .before .before .before in
+    let e = c .before .before .before .before .before .entry-at in
     entry-within (s .args .book .now) (s .args .j) (e .result) (s .pre .0) (s .pre .1) (e .ensures) .0
 
 table-body-requires : tie.Need-table-body-requires
 table-body-requires c κs = search needs
 
-returns-2 : tie.Need-returns-2
-returns-2 c =
-    let a = c .before .before .before .before .before .before .before .before .args in
-    let d = c .before .before .before .before .before .before .edition in
-    let e = c .before .before .before .before .before .entry-at in
-    answer-at (a .book .now) (a .j) (d .result) (e .result) (c .table-body .result) (d .ensures) (e .ensures) (answer-table _ _ _ _ _ (c .before .before .if1 .left) (c .table-body .ensures))
+returns-3 : tie.Need-returns-3
+returns-3 c =
+    let a = c .before .before .before .before .before .before .before .before .before .before .args in
+    let d = c .before .before .before .before .before .before .before .before .edition in
+    let e = c .before .before .before .before .before .before .before .entry-at in
+    answer-at (a .book .now) (a .j) (d .result) (e .result) (c .table-body .result) (d .ensures) (e .ensures) (answer-table _ _ _ _ _ (c .before .before .before .before .if1 .left) (c .before .before .if2 .left) (c .table-body .ensures))
 
 pub body-in-spec : {M : Type 1} → statement M
 body-in-spec =
@@ -73,8 +95,13 @@ body-in-spec =
     part-circuit-body-end
     circuit-body-requires
     returns
+    sub-record-body
+    part-record-body-start
+    part-record-body-end
+    record-body-requires
+    returns-2
     sub-table-body
     part-table-body-start
     part-table-body-end
     table-body-requires
-    returns-2)
+    returns-3)

@@ -8,11 +8,14 @@ use Rattle.exact.specs.declared.Answer.the-variants.{Is}
 use Rattle.exact.specs.Answer.{amountOf}
 use Rattle.bits.proofs.Laws.Bit.{same-or}
 use Rattle.state.specs.Normal.{Normal}
+use Rattle.exact.specs.declared.Told.the-variants.{Is as IsChance}
+use Rattle.exact.specs.Chance.{chanceOf}
 use Rattle.circuit.proofs.Laws.Only.{one-amplitude}
+use Rattle.record.proofs.Laws.Only.{one-chance}
 use Rattle.body_bytes.specs.Body.{bodyFault}
 use Rattle.body_read.specs.Table.{tableOf}
-use Rattle.book_bodies.specs.Number.{inputOf, outputOf, gatesOf, circuitBodyNumber, TableNumber}
-use Rattle.book_bodies.specs.Answer.{Body, saidNumber, saidAmount, circuitBody, CircuitAnswer, TableAnswer}
+use Rattle.book_bodies.specs.Number.{inputOf, outputOf, gatesOf, circuitBodyNumber, recordGates, recordBodyNumber, TableNumber}
+use Rattle.book_bodies.specs.Answer.{Body, saidNumber, saidAmount, saidChance, circuitBody, recordBody, CircuitAnswer, RecordAnswer, TableAnswer}
 
 -- ---- a table's body
 module _ (n : ℕ) (bs : List ℕ) where
@@ -43,3 +46,12 @@ module _ (n : ℕ) (bs : List ℕ) where
       given z =
           let e = one-amplitude ed n (inputOf bs) (outputOf bs) (gatesOf bs) (Is (saidAmount (r .said))) (Is (saidAmount (s .said))) (R .value z) (S .value z) in
           R .given z ∙ ap circuitBody (ap amountOf e) ∙ sym (S .given z)
+
+  -- ---- a record's body
+  pub one-record-answer : (r s : Body) → RecordAnswer n bs r → RecordAnswer n bs s → r ≡ s
+  one-record-answer r s R S = ⊎-elim given (λ ne. R .refused ne ∙ sym (S .refused ne)) (same-or (recordBodyNumber n bs) 0)
+    where
+      given : recordBodyNumber n bs ≡ 0 → r ≡ s
+      given z =
+          let e = one-chance n (inputOf bs) (recordGates bs) (IsChance (saidChance (r .said))) (IsChance (saidChance (s .said))) (R .value z) (S .value z) in
+          R .given z ∙ ap recordBody (ap chanceOf e) ∙ sym (S .given z)

@@ -6,7 +6,7 @@ use native.Mathlib.Omega.{arith}
 use borrow.Author.Needs.{needs}
 use borrow.Author.Tests.{eqb-true}
 use lib.ListN.{length}
-use Rattle.gates.specs.Circuit.{numberOf, gateAt, gatesNumber}
+use Rattle.gates.specs.Circuit.{gatesNumber}
 use Rattle.circuit_number.proofs.Laws.Number.{none-refused}
 use Rattle.circuit_number.proofs.Laws.Fine.{or-none}
 use Rattle.circuit_number.proofs.all_fine.Statement.{statement}

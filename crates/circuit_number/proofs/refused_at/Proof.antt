@@ -1,5 +1,5 @@
 -- `refused_at` meets its contract: one kind of gate or the other.
-use Rattle.gates.specs.Circuit.{gateAt}
+use Rattle.gates.specs.Circuit.{itemAt}
 use Rattle.circuit_number.proofs.Laws.Fine.{one-of}
 use native.Mathlib.Omega.{arith}
 use borrow.Author.Needs.{needs}
@@ -46,7 +46,7 @@ sub-result c =
     one-of (a .result) (b .result) _ _ (a .ensures .0) (b .ensures .0) (a .ensures .1) (b .ensures .1) .0
 
 returns : tie.Need-returns
-unfolding gateAt
+unfolding itemAt
 returns c e =
     let a = c .before .one-fine in
     let b = c .two-fine in

@@ -1,6 +1,6 @@
 -- An entry from its parts and from a part of the book, and its tests on each way through the code: by the truth of each test.
 use mathlib.Core.Path.{_≡_, refl, sym, ap, _∙_}
-use mathlib.Core.Bool.{Bool, true, false, not, _||_}
+use mathlib.Core.Bool.{Bool, true, false, not, _||_, cond, _&&_}
 use mathlib.Core.List.{List}
 use Prim.Native.Nat.{ℕ, _+_, _-_, _*_, _≤_, _<_}
 use native.Mathlib.Omega.{arith}
@@ -43,30 +43,40 @@ module _ (bs : List ℕ) (j : ℕ) where
       (sym (number-beyond 2 bs (4 + 8 * j + 2) (omega arith)))
 
 -- ---- an entry's tests
-pub kind-one : (k : ℕ) → k ≡ 1 → true ≡ goodKind k
-unfolding goodKind
-kind-one k h = rw (eq-eqb k 1 h)
+module _ (ed k : ℕ) where
+  pub kind-one : k ≡ 1 → true ≡ goodKind ed k
+  unfolding goodKind
+  kind-one h = rw (eq-eqb k 1 h)
 
-pub kind-two : (k : ℕ) → (k ≡ 1 → ⊥) → eqb k 2 ≡ goodKind k
-unfolding goodKind
-kind-two k h = rw (ne-eqb k 1 h)
+  pub kind-two : (k ≡ 1 → ⊥) → k ≡ 2 → true ≡ goodKind ed k
+  unfolding goodKind
+  kind-two h z = rw (ne-eqb k 1 h, eq-eqb k 2 z)
 
-module _ (e : Entry) (from size : ℕ) where
-  pub fault-kind : goodKind (e .kind) ≡ false → true ≡ faultAt e from size
+  -- edition 1 has no more
+  pub kind-first : (k ≡ 1 → ⊥) → (k ≡ 2 → ⊥) → (ed ≡ 2 → ⊥) → false ≡ goodKind ed k
+  unfolding goodKind
+  kind-first h z q = rw (ne-eqb k 1 h, ne-eqb k 2 z, ne-eqb ed 2 q)
+
+  pub kind-three : (k ≡ 1 → ⊥) → (k ≡ 2 → ⊥) → ed ≡ 2 → eqb k 3 ≡ goodKind ed k
+  unfolding goodKind
+  kind-three h z q = rw (ne-eqb k 1 h, ne-eqb k 2 z, eq-eqb ed 2 q)
+
+module _ (ed : ℕ) (e : Entry) (from size : ℕ) where
+  pub fault-kind : goodKind ed (e .kind) ≡ false → true ≡ faultAt ed e from size
   unfolding faultAt
   fault-kind h = rw h
 
-  module _ (a : goodKind (e .kind) ≡ true) where
-    pub fault-start : (e .start ≡ from → ⊥) → true ≡ faultAt e from size
+  module _ (a : goodKind ed (e .kind) ≡ true) where
+    pub fault-start : (e .start ≡ from → ⊥) → true ≡ faultAt ed e from size
     unfolding faultAt
     fault-start h = rw (a, ne-eqb (e .start) from h)
 
     module _ (b : e .start ≡ from) where
-      pub fault-beyond : size < e .start → true ≡ faultAt e from size
+      pub fault-beyond : size < e .start → true ≡ faultAt ed e from size
       unfolding faultAt
       fault-beyond h = rw (a, eq-eqb (e .start) from b, lt-ltb size (e .start + e .length) (omega arith))
 
-      pub fault-end : e .start ≤ size → ltb (size - e .start) (e .length) ≡ faultAt e from size
+      pub fault-end : e .start ≤ size → ltb (size - e .start) (e .length) ≡ faultAt ed e from size
       unfolding faultAt
       fault-end h = rw (a, eq-eqb (e .start) from b) (go (ltb (size - e .start) (e .length)) refl)
         where
@@ -75,27 +85,33 @@ module _ (e : Entry) (from size : ℕ) where
           go false q = sym (le-ltb size (e .start + e .length) (omega (arith, ltb-false (size - e .start) (e .length) q)))
 
 -- what an entry that is not refused says
-pub fault-none : (e : Entry) (from size : ℕ) → faultAt e from size ≡ false → (goodKind (e .kind) ≡ true) × (e .start ≡ from) × (e .start + e .length ≤ size)
+pub fault-none : (ed : ℕ) (e : Entry) (from size : ℕ) → faultAt ed e from size ≡ false → (goodKind ed (e .kind) ≡ true) × (e .start ≡ from) × (e .start + e .length ≤ size)
 unfolding faultAt
-fault-none e from size h =
-    let a = not (goodKind (e .kind)) in
+fault-none ed e from size h =
+    let a = not (goodKind ed (e .kind)) in
     let b = not (eqb (e .start) from) in
     let l = or-no-left (a || b) (ltb size (e .start + e .length)) h in (
-      not-false (goodKind (e .kind)) (or-no-left a b l),
+      not-false (goodKind ed (e .kind)) (or-no-left a b l),
       eqb-true (e .start) from (not-false (eqb (e .start) from) (or-no-right a b l)),
       ltb-false size (e .start + e .length) (or-no-right (a || b) (ltb size (e .start + e .length)) h),
     )
 
--- one of the two kinds
-pub kind-cases : (k : ℕ) → goodKind k ≡ true → (k ≡ 1) ⊎ (k ≡ 2)
+clash : false ≡ true → ⊥
+clash z = let q : _≡_ {A = ℕ} 0 1 = ap (λ (b : Bool). cond b 1 0) z in absurd (omega arith)
+
+-- one of the kinds: the third in edition 2 alone
+pub kind-cases : (ed k : ℕ) → goodKind ed k ≡ true → (k ≡ 1) ⊎ (k ≡ 2) ⊎ ((ed ≡ 2) × (k ≡ 3))
 unfolding goodKind
-kind-cases k h = go (eqb k 1) refl
+kind-cases ed k h = go (eqb k 1) refl (eqb k 2) refl (eqb ed 2) refl (eqb k 3) refl h
   where
-    go : (t : Bool) → eqb k 1 ≡ t → (k ≡ 1) ⊎ (k ≡ 2)
-    go true e = inl (eqb-true k 1 e)
-    go false e = inr (eqb-true k 2 (ap (λ (t : Bool). t || eqb k 2) (sym e) ∙ h))
+    go : (a : Bool) → eqb k 1 ≡ a → (b : Bool) → eqb k 2 ≡ b → (c : Bool) → eqb ed 2 ≡ c → (d : Bool) → eqb k 3 ≡ d → a || b || (c && d) ≡ true → (k ≡ 1) ⊎ (k ≡ 2) ⊎ ((ed ≡ 2) × (k ≡ 3))
+    go true e b f c g d i z = inl (eqb-true k 1 e)
+    go false e true f c g d i z = inr (inl (eqb-true k 2 f))
+    go false e false f true g true i z = inr (inr (eqb-true ed 2 g, eqb-true k 3 i))
+    go false e false f true g false i z = absurd (clash z)
+    go false e false f false g d i z = absurd (clash z)
 
 -- and the way back
-pub fault-pass : (e : Entry) (from size : ℕ) → goodKind (e .kind) ≡ true → e .start ≡ from → e .start + e .length ≤ size → faultAt e from size ≡ false
+pub fault-pass : (ed : ℕ) (e : Entry) (from size : ℕ) → goodKind ed (e .kind) ≡ true → e .start ≡ from → e .start + e .length ≤ size → faultAt ed e from size ≡ false
 unfolding faultAt
-fault-pass e from size a b c = rw (a, eq-eqb (e .start) from b, le-ltb size (e .start + e .length) c)
+fault-pass ed e from size a b c = rw (a, eq-eqb (e .start) from b, le-ltb size (e .start + e .length) c)

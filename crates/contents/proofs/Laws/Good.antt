@@ -9,7 +9,7 @@ use native.Mathlib.Numerals.{add-one}
 use lib.Dec.{eqb, ltb}
 use lib.ListN.{length}
 use borrow.Author.Tests.{eqb-true, ltb-false, not-false}
-use Rattle.contents.specs.Contents.{Entry, countOf, kindOf, lengthOf, startOf, entryOf, bodyStart, anyBelow, headerFault, goodKind, entryFault, contentsFault, contentsNumber}
+use Rattle.contents.specs.Contents.{Entry, editionOf, countOf, kindOf, lengthOf, startOf, entryOf, bodyStart, anyBelow, headerFault, goodKind, entryFault, contentsFault, contentsNumber}
 use Rattle.contents.proofs.Laws.Some.{or-no-left, or-no-right, some-none}
 use Rattle.contents.proofs.Laws.Entry.{fault-none, kind-cases}
 use Rattle.contents.proofs.Laws.Header.{header-small}
@@ -25,7 +25,7 @@ start-least bs j = omega arith
 
 -- what entry e says of body j
 pub record Body (bs : List ℕ) (j : ℕ) (e : Entry) : Type 0 where
-  pub kind : (e .kind ≡ 1) ⊎ (e .kind ≡ 2)
+  pub kind : (e .kind ≡ 1) ⊎ (e .kind ≡ 2) ⊎ ((editionOf bs ≡ 2) × (e .kind ≡ 3))
   pub start : e .start ≡ bodyStart bs j
   pub behind : 4 + 8 * countOf bs ≤ e .start
   pub within : e .start + e .length ≤ length bs
@@ -63,8 +63,8 @@ module _ (bs : List ℕ) (z : contentsNumber bs ≡ 0) where
       let one = anyBelow (countOf bs) (entryFault bs) in
       or-no-right short one (or-no-left (short || one) (not (eqb (bodyStart bs (countOf bs)) (length bs))) good-contents)
 
-  clear : (j : ℕ) → j < countOf bs → (goodKind (kindOf bs j) ≡ true) × (startOf bs j ≡ bodyStart bs j) × (startOf bs j + lengthOf bs j ≤ length bs)
-  clear j h = fault-none (entryOf bs j) (bodyStart bs j) (length bs) (some-none (countOf bs) j (entryFault bs) unrefused h)
+  clear : (j : ℕ) → j < countOf bs → (goodKind (editionOf bs) (kindOf bs j) ≡ true) × (startOf bs j ≡ bodyStart bs j) × (startOf bs j + lengthOf bs j ≤ length bs)
+  clear j h = fault-none (editionOf bs) (entryOf bs j) (bodyStart bs j) (length bs) (some-none (countOf bs) j (entryFault bs) unrefused h)
 
   good-last : bodyStart bs (countOf bs) ≡ length bs
   unfolding contentsFault
@@ -85,7 +85,7 @@ module _ (bs : List ℕ) (z : contentsNumber bs ≡ 0) where
   stated j h =
       let f = clear j h in
       let next : bodyStart bs (suc j) ≡ startOf bs j + lengthOf bs j = start-suc bs j ∙ ap (λ (x : ℕ). x + lengthOf bs j) (sym (f .1)) in record {
-        kind = kind-cases (kindOf bs j) (f .0);
+        kind = kind-cases (editionOf bs) (kindOf bs j) (f .0);
         start = f .1;
         behind = omega (arith, f .1, start-least bs j);
         within = f .2;

@@ -9,7 +9,7 @@ use lib.Dec.{eqb, ltb}
 use lib.ListN.{length}
 use borrow.Author.Tests.{lt-ltb, le-ltb}
 use Rattle.exact.specs.Sum.{total}
-use Rattle.contents.specs.Contents.{Entry, countOf, lengthOf, entryOf, bodyStart, anyBelow, headerFault, faultAt, entryFault, contentsFault, contentsNumber}
+use Rattle.contents.specs.Contents.{Entry, editionOf, countOf, lengthOf, entryOf, bodyStart, anyBelow, headerFault, faultAt, entryFault, contentsFault, contentsNumber}
 use Rattle.contents.proofs.Laws.Some.{some-here}
 
 -- ---- where bodies start
@@ -56,8 +56,8 @@ module _ (bs : List ℕ) where
 
 -- ---- a turn of the loop over the entries: entry j is not refused
 module _ (bs : List ℕ) (j at : ℕ) (e : Entry) (is : e ≡ entryOf bs j) (from : at ≡ bodyStart bs j) where
-  pub turn-fault : (t : Bool) → t ≡ faultAt e at (length bs) → entryFault bs j ≡ t
-  turn-fault t h = sym (h ∙ ap₂ (λ (x : Entry) (y : ℕ). faultAt x y (length bs)) is from)
+  pub turn-fault : (ed : ℕ) → ed ≡ editionOf bs → (t : Bool) → t ≡ faultAt ed e at (length bs) → entryFault bs j ≡ t
+  turn-fault ed z t h = sym (h ∙ ap (λ (x : ℕ). faultAt x e at (length bs)) z ∙ ap₂ (λ (x : Entry) (y : ℕ). faultAt (editionOf bs) x y (length bs)) is from)
 
   pub turn-next : at + e .length ≡ bodyStart bs (j + 1)
   turn-next = ap₂ (λ (y : ℕ) (x : Entry). y + x .length) from is ∙ sym (start-next bs j)

@@ -1,13 +1,27 @@
--- `good_kind` meets its contract: by the two tests.
-use Rattle.contents.proofs.Laws.Entry.{kind-one, kind-two}
+-- `good_kind` meets its contract: test by test.
+use Rattle.contents.proofs.Laws.Entry.{kind-one, kind-two, kind-first, kind-three}
 use Rattle.contents.proofs.good_kind.Statement.{statement}
 use Rattle.contents.proofs.good_kind.Tie as tie
 
 returns : tie.Need-returns
-returns c = kind-one (c .before .args .kind) (c .if1 .taken)
+returns c =
+    let a = c .before .args in
+    kind-one (a .edition) (a .kind) (c .if1 .taken)
 
 returns-2 : tie.Need-returns-2
-returns-2 c = kind-two (c .before .args .kind) (c .if1 .left)
+returns-2 c =
+    let a = c .before .before .args in
+    kind-two (a .edition) (a .kind) (c .before .if1 .left) (c .if2 .taken)
+
+returns-3 : tie.Need-returns-3
+returns-3 c =
+    let a = c .before .before .before .args in
+    kind-first (a .edition) (a .kind) (c .before .before .if1 .left) (c .before .if2 .left) (c .if3 .taken)
+
+returns-4 : tie.Need-returns-4
+returns-4 c =
+    let a = c .before .before .before .args in
+    kind-three (a .edition) (a .kind) (c .before .before .if1 .left) (c .before .if2 .left) (c .if3 .left)
 
 pub good-kind-spec : {M : Type 1} → statement M
-good-kind-spec = tie.close (tie.spec returns returns-2)
+good-kind-spec = tie.close (tie.spec returns returns-2 returns-3 returns-4)

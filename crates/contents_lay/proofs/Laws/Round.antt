@@ -143,8 +143,8 @@ module _ (room ed : ℕ) (ks ws ls tail : List ℕ) (ok : Lists room ed ks ws ls
   unfaulted : (j : ℕ) → j < countOf book → entryFault book j ≡ false
   unfaulted j h =
       let l : j < length ks = omega (arith, round-count) in
-      let kind = not-false (goodKind (getD ks j 0)) (some-none (length ks) j (badKind ks) (ok .kinds) l) in
-      fault-pass (entryOf book j) (bodyStart book j) (length book) (ap goodKind (round-kind j l) ∙ kind)
+      let kind = not-false (goodKind ed (getD ks j 0)) (some-none (length ks) j (badKind ed ks) (ok .kinds) l) in
+      fault-pass (editionOf book) (entryOf book j) (bodyStart book j) (length book) (ap₂ goodKind round-edition (round-kind j l) ∙ kind)
       (round-stated j l ∙ sym (round-start j (omega arith)))
       (omega (arith, round-stated j l, round-length j l, ends j l, book-length))
 

@@ -12,13 +12,13 @@ use Rattle.contents_lay.proofs.bad_kind.Statement.{statement}
 use Rattle.contents_lay.proofs.bad_kind.Tie as tie
 
 abbrev Inv-loop : tie.InvT-loop
-Inv-loop kinds i₀ i = (i ≤ length kinds) × (anyBelow i (badKind kinds) ≡ false)
+Inv-loop edition kinds i₀ i = (i ≤ length kinds) × (anyBelow i (badKind edition kinds) ≡ false)
 
 abbrev μ-loop : tie.MeasureT-loop
-μ-loop kinds i₀ i = length kinds - i
+μ-loop edition kinds i₀ i = length kinds - i
 
 loop-holds : tie.Need-loop-holds Inv-loop μ-loop
-loop-holds c = (omega arith, some-zero (badKind (c .before .args .kinds .now)))
+loop-holds c = (omega arith, some-zero (badKind (c .before .args .edition) (c .before .args .kinds .now)))
 
 shared-slice-read-good-kind : tie.Need-shared-slice-read-good-kind Inv-loop μ-loop
 shared-slice-read-good-kind c = omega arith
@@ -28,9 +28,10 @@ good-kind-requires c κs = search needs
 
 returns : tie.Need-returns Inv-loop μ-loop
 returns c =
+    let ed = c .before .before .before .before .before .before .args .edition in
     let ks = c .before .before .before .before .before .before .args .kinds .now in
     let i = c .before .before .before .before .loop .i in
-    sym (some-here (length ks) i (badKind ks) (omega arith) (ap not (sym (c .before .good-kind .ensures)) ∙ c .if1 .taken))
+    sym (some-here (length ks) i (badKind ed ks) (omega arith) (ap not (sym (c .before .good-kind .ensures)) ∙ c .if1 .taken))
 
 add-i : tie.Need-add-i Inv-loop μ-loop
 add-i c = omega arith
@@ -40,16 +41,18 @@ loop-less c = omega arith
 
 loop-again : tie.Need-loop-again Inv-loop μ-loop
 loop-again c =
+    let ed = c .before .before .before .before .before .before .args .edition in
     let ks = c .before .before .before .before .before .before .args .kinds .now in
     let l = c .before .before .before .before .loop in
-    (omega arith, some-next (l .i) (badKind ks) (l .inv .1) (ap not (sym (c .before .good-kind .ensures)) ∙ c .if1 .left))
+    (omega arith, some-next (l .i) (badKind ed ks) (l .inv .1) (ap not (sym (c .before .good-kind .ensures)) ∙ c .if1 .left))
 
 returns-2 : tie.Need-returns-2 Inv-loop μ-loop
 returns-2 c =
+    let ed = c .before .before .before .args .edition in
     let ks = c .before .before .before .args .kinds .now in
     let l = c .before .loop in
     let q : l .i ≡ length ks = omega arith in
-    sym (l .inv .1) ∙ ap (λ (k : ℕ). anyBelow k (badKind ks)) q
+    sym (l .inv .1) ∙ ap (λ (k : ℕ). anyBelow k (badKind ed ks)) q
 
 pub bad-kind-spec : {M : Type 1} → statement M
 bad-kind-spec =

@@ -50,7 +50,7 @@ returns-5 c =
     let ws = a .widths .now in
     let ls = a .lengths .now in
     let few = many-none ks ws ls (omega arith) (omega arith) (omega arith) in
-    lay-ten ks ws ls (a .room) (a .edition) g few (bad-widths ks ws ls (c .if5 .taken))
+    lay-ten ks ws ls (a .room) (a .edition) g few (bad-widths ks ws ls (a .edition) (c .if5 .taken))
 
 returns-6 : tie.Need-returns-6
 returns-6 c =
@@ -60,7 +60,7 @@ returns-6 c =
     let ws = a .widths .now in
     let ls = a .lengths .now in
     let few = many-none ks ws ls (omega arith) (omega arith) (omega arith) in
-    lay-ten ks ws ls (a .room) (a .edition) g few (bad-lengths ks ws ls (omega arith) (c .if6 .taken))
+    lay-ten ks ws ls (a .room) (a .edition) g few (bad-lengths ks ws ls (omega arith) (a .edition) (c .if6 .taken))
 
 bad-kind-requires : tie.Need-bad-kind-requires
 bad-kind-requires c κs = search needs
@@ -73,7 +73,7 @@ returns-7 c =
     let ws = a .widths .now in
     let ls = a .lengths .now in
     let few = many-none ks ws ls (omega arith) (omega arith) (omega arith) in
-    lay-ten ks ws ls (a .room) (a .edition) g few (bad-kinds ks ws ls (omega arith) (omega arith) (sym (c .before .bad-kind .ensures) ∙ c .if7 .taken))
+    lay-ten ks ws ls (a .room) (a .edition) g few (bad-kinds ks ws ls (omega arith) (omega arith) (a .edition) (sym (c .before .bad-kind .ensures) ∙ c .if7 .taken))
 
 book-size-requires : tie.Need-book-size-requires
 book-size-requires c κs = search needs
@@ -87,7 +87,7 @@ returns-8 c =
     let ls = a .lengths .now in
     let few = many-none ks ws ls (omega arith) (omega arith) (omega arith) in
     let kinds = sym (c .before .before .before .bad-kind .ensures) ∙ c .before .before .if7 .left in
-    lay-ten ks ws ls (a .room) (a .edition) g few (bad-total ks ws ls (omega arith) (omega arith) kinds (omega (arith, c .before .book-size .ensures)))
+    lay-ten ks ws ls (a .room) (a .edition) g few (bad-total ks ws ls (omega arith) (omega arith) (a .edition) kinds (omega (arith, c .before .book-size .ensures)))
 
 mul-if9 : tie.Need-mul-if9
 mul-if9 c = search needs
@@ -104,7 +104,7 @@ returns-9 c =
     let ls = a .lengths .now in
     let few = many-none ks ws ls (omega arith) (omega arith) (omega arith) in
     let kinds = sym (c .before .before .before .before .bad-kind .ensures) ∙ c .before .before .before .if7 .left in
-    let fine = bad-none ks ws ls (omega arith) (omega arith) kinds (omega (arith, c .before .before .book-size .ensures)) in
+    let fine = bad-none ks ws ls (omega arith) (omega arith) (a .edition) kinds (omega (arith, c .before .before .book-size .ensures)) in
     lay-thirteen ks ws ls (a .room) (a .edition) g few fine (omega arith)
 
 returns-10 : tie.Need-returns-10
@@ -116,7 +116,7 @@ returns-10 c =
     let ls = a .lengths .now in
     let few = many-none ks ws ls (omega arith) (omega arith) (omega arith) in
     let kinds = sym (c .before .before .before .before .bad-kind .ensures) ∙ c .before .before .before .if7 .left in
-    let fine = bad-none ks ws ls (omega arith) (omega arith) kinds (omega (arith, c .before .before .book-size .ensures)) in
+    let fine = bad-none ks ws ls (omega arith) (omega arith) (a .edition) kinds (omega (arith, c .before .before .book-size .ensures)) in
     lay-zero ks ws ls (a .room) (a .edition) g few fine (omega arith)
 
 pub lay-number-spec : {M : Type 1} → statement M
