@@ -3,7 +3,7 @@
  * Link with libtopazfern.a (x86-64 Linux): rt staticlib topazfern; cc program.c target/staticlib/libtopazfern.a
  *
  * Each call takes any bytes and any numbers, ends, keeps nothing and calls nothing back. A call that answers a number of
- * refusal (1..14, below) has changed nothing behind its pointers, but that a writer sets *bytes to 0. The caller owes what C
+ * refusal (1..16, below) has changed nothing behind its pointers, but that a writer sets *bytes to 0. The caller owes what C
  * cannot check: each pointer is valid for its length (a length of 0 may come with any pointer that is not null), and no two
  * of a call's pointers overlap where one of them is written through. Calls may run at the same time on different memory.
  *
@@ -20,28 +20,31 @@
 extern "C" {
 #endif
 
-/* Numbers of refusal, as document 01 has them; 0 is none. */
+/* Numbers of refusal, as documents 01 and 02 have them; 0 is none. */
 enum {
     TOPAZFERN_ACCEPTED = 0,
     TOPAZFERN_NOT_LIVE = 1,      /* an assignment has a bit that is not live */
     TOPAZFERN_TWICE = 2,         /* the same wire twice */
-    TOPAZFERN_RANGE = 3,         /* second byte of a one-wire gate not 0; number of a one-wire element above 23 */
+    TOPAZFERN_RANGE = 3,         /* second byte of a one-wire gate not 0; a block's count of 0, or a stray byte of its marks; number of a one-wire element above 23 */
     TOPAZFERN_WIDTH = 6,         /* width of a circuit not 1..31, or a wire not below it */
     TOPAZFERN_CODE = 7,          /* unknown gate code */
     TOPAZFERN_STRING = 8,        /* a string has a bit at or above the width */
     TOPAZFERN_HEADER = 9,        /* a book's length, letters, edition or count; an edition other than 1 or 2; a list to lay of more than 16 */
     TOPAZFERN_CONTENTS = 10,     /* a book's contents; lists to lay unequal, bad kind, or total above 60,000 */
-    TOPAZFERN_BODY = 11,         /* body length wrong, more than 4,096 gates or elements, or a field out of range */
+    TOPAZFERN_BODY = 11,         /* body length wrong, more than 4,096 gates and marks, or elements to close, or a field out of range */
     TOPAZFERN_NOT_NORMAL = 12,   /* a table that is not normal */
     TOPAZFERN_ROOM = 13,         /* the area is too short for what is to be written, or the start is beyond its end */
-    TOPAZFERN_NO_BODY = 14       /* no body of that number */
+    TOPAZFERN_NO_BODY = 14,      /* no body of that number */
+    TOPAZFERN_BLOCK = 16         /* a block unclosed, empty or unopened, more than 8 deep, or more than 65,536 gates written out */
 };
 
 /* The longest listing. */
 #define TOPAZFERN_LISTING_MAX 312
 
 /* The amplitude of a circuit: three bytes for each gate, bit i of a string is wire i. In edition 1 code 7 is H S H, in edition 2 the
- * rotation with rows (1, -i) and (-i, 1) over the square root of two. Refuses 9, 11, 6, 8, then gate by gate 7, 6, 3 or 2. */
+ * rotation with rows (1, -i) and (-i, 1) over the square root of two. In edition 2 the bytes 64, n, 0 open a block that is run n
+ * times (1..255), and 65, 0, 0 close it; blocks hold gates and blocks. Nothing is written out: 65,536 gates need no more memory than
+ * one. Refuses 9, 11, 6, 8, then item by item 7, 6, 3 or 2, then 16. */
 uint8_t topazfern_amplitude(uint8_t edition, uint8_t width, uint32_t input, uint32_t output, const uint8_t *gates,
                             size_t gates_length, uint8_t *zero, int32_t *power, uint8_t *phase);
 

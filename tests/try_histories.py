@@ -15,7 +15,7 @@ from pathlib import Path
 sys.dont_write_bytecode = True
 sys.path[:0] = [str(Path(__file__).resolve().parent / part) for part in ("drawn", "plain")]
 
-from tables import Table, answer, bits, mask_of
+from tables import Table, answer, bits, case, mask_of
 from words import WORD, word
 
 CALLS = ["new_bit", "quarter", "sign", "scale", "tie", "sum", "fix", "join"]
@@ -65,7 +65,7 @@ def called(i, j, call):
     spread = "refused 12" if after.spoilt else "none" if after.spread() is None else after.spread()
     kept, tidy = (1, 0) if after.spoilt else (int(after.same(before)), 1)
     h = entries(word(0, after.live()), after, looks[i], len(records) - 1)
-    beside = [slot] if name == "new_bit" else [placed(places)] if name == "join" else []
+    beside = [slot] if name == "new_bit" else [placed(places)] if name == "join" else [case(n, before, after, *given)] * 2 if name == "sum" else []
     lines.append(" ".join(map(str, [n, *beside, spread, kept, tidy, f"{h % 2**32:08x}"])))
 
 

@@ -20,6 +20,9 @@ static const uint8_t bell[] = {1, 0, 0, 17, 0, 1};
 /* Code 7 on wire 0: from 0 to 0 an eighth turn apart in the two editions. */
 static const uint8_t seven[] = {7, 0, 0};
 
+/* Three times H and S, as a block. */
+static const uint8_t thrice[] = {64, 3, 0, 1, 0, 0, 2, 0, 0, 65, 0, 0};
+
 static void amplitudes(void)
 {
     uint8_t zero, phase, refused;
@@ -37,6 +40,10 @@ static void amplitudes(void)
     show("code 7 in edition 2", refused, zero, power, phase);
     refused = topazfern_amplitude(3, 1, 0, 0, seven, sizeof seven, &zero, &power, &phase);
     show("code 7 in edition 3", refused, zero, power, phase);
+    refused = topazfern_amplitude(2, 1, 0, 0, thrice, sizeof thrice, &zero, &power, &phase);
+    show("three times H, S", refused, zero, power, phase);
+    refused = topazfern_amplitude(2, 1, 0, 0, thrice, sizeof thrice - 3, &zero, &power, &phase);
+    show("a block unclosed", refused, zero, power, phase);
 }
 
 /* Two slots tied to differ, slot 0 turned by a quarter: c = 2 and a_1 = 3. */

@@ -82,9 +82,9 @@ def bodies(book):
     return [(entry, book[entry.start:entry.start + entry.length]) for entry in entries(book)]
 
 
-def body_faults(at, entry, data):
+def body_faults(edition, at, entry, data):
     if entry.kind == CIRCUIT:
-        for number, reason, gate in gates.faults(entry.width, data):
+        for number, reason, gate in gates.faults(edition, entry.width, data):
             yield Fault(number, "body", at, -1 if gate is None else gate, reason)
     elif entry.kind == TABLE:
         for number, reason in tables.faults(entry.width, data):
@@ -100,7 +100,7 @@ def faults(book):
     for at, reason in contents_faults(book):
         yield Fault(10, "contents", at, -1, reason)
     for at, (entry, data) in enumerate(bodies(book)):
-        yield from body_faults(at, entry, data)
+        yield from body_faults(book[2], at, entry, data)
 
 
 def line(edition, at, entry, data):
@@ -117,7 +117,7 @@ def line(edition, at, entry, data):
 
 def answer(edition, at, entry, data):
     """A body's line, or "`1 refused 7` in place of the answer" """
-    fault = next(body_faults(at, entry, data), None)
+    fault = next(body_faults(edition, at, entry, data), None)
     return line(edition, at, entry, data) if fault is None else f"{at} refused {fault.number}"
 
 

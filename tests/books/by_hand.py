@@ -11,6 +11,11 @@ def circuit(width, body):
     return HEAD + f"01 01 {width:02x} {len(bytes.fromhex(body)):02x}00 0C000000" + body
 
 
+def second(width, body):
+    """The same in edition 2."""
+    return circuit(width, body).replace("51 4E 01", "51 4E 02")
+
+
 def table(width, body):
     return HEAD + f"01 02 {width:02x} {len(bytes.fromhex(body)):02x}00 0C000000" + body
 
@@ -112,6 +117,34 @@ EDITIONS = [
     ("51 4E 03 " + ROTATIONS, "refused 9"),
 ]
 
+# repeated blocks of edition 2, code 64 (40) and code 65 (41)
+BLOCKS = [
+    (second(1, NO_STRINGS + "400300 010000 020000 410000"), "book 1/0 C 0 1"),  # H, S three times
+    (second(1, "00000000 01000000 40FF00 050000 410000"), "book 1/0 C 0 0"),  # X 255 times
+    (second(1, NO_STRINGS + "40FF00 050000 410000"), "book 1/0 C zero"),
+    # twice (S, three times X): one of the two S meets a 1
+    (second(1, NO_STRINGS + "400200 020000 400300 050000 410000 410000"), "book 1/0 C 0 2"),
+    (second(1, "01000000 01000000 400200 020000 400300 050000 410000 410000"), "book 1/0 C 0 2"),
+    (second(1, "00000000 01000000" + "400100" * 8 + "050000" + "410000" * 8), "book 1/0 C 0 0"),
+    (second(1, "00000000 01000000" + "400100" * 9 + "050000" + "410000" * 9), "book 1/0 refused 16"),
+    (second(1, NO_STRINGS + "400300 410000"), "book 1/0 refused 16"),  # empty
+    (second(1, NO_STRINGS + "400300 010000"), "book 1/0 refused 16"),  # unclosed
+    (second(1, NO_STRINGS + "410000"), "book 1/0 refused 16"),  # unopened
+    (second(1, NO_STRINGS + "010000 410000 400100"), "book 1/0 refused 16"),
+    (second(1, NO_STRINGS + "410000 090000"), "book 1/0 refused 7"),  # 7 before 16
+    (second(1, NO_STRINGS + "400300 010100"), "book 1/0 refused 6"),
+    (second(1, NO_STRINGS + "410000 010001"), "book 1/0 refused 3"),
+    (second(1, NO_STRINGS + "400000 010000 410000"), "book 1/0 refused 3"),  # a count of 0
+    (second(1, NO_STRINGS + "400300 010000 410100"), "book 1/0 refused 3"),
+    (second(1, NO_STRINGS + "400301 010000 410000"), "book 1/0 refused 3"),
+    (second(1, NO_STRINGS + "400300 010000 410001"), "book 1/0 refused 3"),
+    (second(1, "02000000 00000000 410000"), "book 1/0 refused 8"),
+    (circuit(1, NO_STRINGS + "400300 010000 020000 410000"), "book 1/0 refused 7"),  # edition 1
+    (circuit(1, NO_STRINGS + "400000"), "book 1/0 refused 7"),
+    (second(1, NO_STRINGS + "40FF00 050000 40FE00 050000 410000 410000" + "40FF00 050000 410000" * 2 + "050000"), "book 1/0 C 0 0"),
+    (second(1, NO_STRINGS + "40FF00 050000 40FE00 050000 410000 410000" + "40FF00 050000 410000" * 2 + "050000" * 2), "book 1/0 refused 16"),
+]
+
 TABLES = [
     (table(0, "01 00 0000 00"), "book 1/0 T 0 zero"),
     (table(0, "00 07 D007 00"), "book 1/0 T 0 0 2000 7"),
@@ -156,5 +189,5 @@ TABLES = [
 def cases():
     """(book, listing); the listings above have / for a newline and leave out the last one."""
     yield PAPER, "book 2\n0 C -1 0\n1 C -1 1\n"
-    for text, said in FRAMES + CIRCUITS + NIGHT + EDITIONS + TABLES:
+    for text, said in FRAMES + CIRCUITS + NIGHT + EDITIONS + BLOCKS + TABLES:
         yield bytes.fromhex(text), said.replace("/", "\n") + "\n"

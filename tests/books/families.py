@@ -5,6 +5,7 @@ import bad_tables
 import edges
 import gates as g
 import order
+import some_blocks
 import some_circuits
 import some_tables
 from book import lay
@@ -146,7 +147,7 @@ def nonsense(rng):
 SOUND = [*map(in_both, [paper, narrow, wide, undone, long, mixed]), tables]
 BAD = [*map(in_both, [codes, bad_gates, bad_circuit_bodies, bad_table_bodies]), frames]
 NOISE = [flips, flips_in_frame, cuts, nonsense]
-ALL = SOUND + [*map(in_both, edges.CIRCUITS)] + edges.FRAMES_AND_TABLES + BAD + [*map(in_both, order.FAMILIES)] + NOISE
+ALL = SOUND + [*map(in_both, edges.CIRCUITS)] + edges.FRAMES_AND_TABLES + BAD + [*map(in_both, order.FAMILIES)] + some_blocks.FAMILIES + NOISE
 
 
 def one_more(rng):
@@ -155,5 +156,7 @@ def one_more(rng):
         lambda: ("sound", sound_book(rng)),
         lambda: ("sound among sound", order.among(rng, [sound_part(rng)])),
         lambda: ("bytes changed", with_bytes_changed(rng, order.among(rng, [sound_part(rng)]), 3)),
+        lambda: ("nested blocks", some_blocks.among(rng, [some_blocks.part(rng, 3, some_blocks.nested(rng, 3, 8, 300))])),
+        lambda: ("a bad block", some_blocks.among(rng, [some_blocks.refused(rng)])),
         lambda: ("a bad body", order.among(rng, [order.bad_part(rng, rng.choice(order.OF_BODIES))])),
     ])()

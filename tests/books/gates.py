@@ -1,14 +1,16 @@
-"""The bytes of a circuit body: its strings and gates, and all that document 01 finds wrong with them.
+"""The bytes of a circuit body: its strings, gates and marks, and all that documents 01 and 02 find wrong with them.
 
 "Circuit body: input string (32 bits), output string (32 bits), gates." "A gate is three bytes: code, wire, second byte."
 """
+
+import blocks
 
 H, S, S_DAGGER, Z, X, Y, SX = range(1, 8)
 CZ, CX, SWAP = range(16, 19)
 ONE_WIRE = range(1, 8)
 TWO_WIRES = range(16, 19)
 KNOWN = [*ONE_WIRE, *TWO_WIRES]
-UNKNOWN = [code for code in range(256) if code not in KNOWN]
+UNKNOWN = [code for code in range(256) if code not in (*KNOWN, *blocks.MARKS)]  # in both editions
 MOST_GATES = 4096
 EDITIONS = (1, 2)
 ROTATION = 0x107  # what code 7 means in edition 2; no byte has this number
@@ -23,14 +25,21 @@ def strings(body):
     return number(body, 0, 4), number(body, 4, 4)
 
 
+def unknown(edition):
+    """"Edition 1 still refuses 64 and 65 as unknown." """
+    return UNKNOWN if edition == 2 else [*UNKNOWN, *blocks.MARKS]
+
+
 def written(body):
-    """The gates whose three bytes are all there, as the bytes have them."""
+    """The gates and marks whose three bytes are all there, as the bytes have them."""
     return [tuple(body[at:at + 3]) for at in range(8, len(body) - 2, 3)]
 
 
 def gates(edition, body):
-    """What the gates mean: "Edition 1 books keep the old reading and edition 2 books get the new one." """
-    return [(ROTATION, *gate[1:]) if edition == 2 and gate[0] == SX else gate for gate in written(body)]
+    """What the body of a sound circuit means: "Edition 1 books keep the old reading and edition 2 books get the new one." """
+    if edition != 2:
+        return written(body)
+    return [(ROTATION, *gate[1:]) if gate[0] == SX else gate for gate in blocks.expansion(written(body))[0]]
 
 
 def body(given, wanted, circuit):
@@ -48,10 +57,24 @@ def length_faults(data):
         yield 11, "too many gates"
 
 
-def gate_faults(width, gate):
+def mark_faults(mark):
+    """"Both carry a second byte of 0, and 65 a wire byte of 0." "3 for a count of 0 or a stray byte" """
+    code, wire, second = mark
+    if code == blocks.OPEN and wire == 0:
+        yield 3, "count of 0"
+    if code == blocks.CLOSE and wire != 0:
+        yield 3, "wire byte of a close"
+    if second != 0:
+        yield 3, "second byte of a mark"
+
+
+def gate_faults(edition, width, gate):
     """"Per gate: 7, 6, 3 or 2." """
     code, wire, second = gate
-    if code in UNKNOWN:
+    if edition == 2 and code in blocks.MARKS:
+        yield from mark_faults(gate)
+        return
+    if code in unknown(edition):
         yield 7, "unknown code"
     if wire >= width:
         yield 6, "wire"
@@ -63,8 +86,9 @@ def gate_faults(width, gate):
         yield 2, "wire twice"
 
 
-def faults(width, data):
-    """All faults of a circuit body as (number, reason, gate or None): "Circuits: 11, 6, 8, gates in order." """
+def faults(edition, width, data):
+    """All faults of a circuit body as (number, reason, gate or None): "Circuits: 11, 6, 8, gates in order.", and 16 "after all
+    other refusals of that body", told at the end of the gates. """
     for number_, reason in length_faults(data):
         yield number_, reason, None
     if not 1 <= width <= 31:
@@ -74,6 +98,9 @@ def faults(width, data):
     for name, string in zip(("input", "output"), strings(data)):
         if string >> width:
             yield 8, name, None
-    for at, gate in enumerate(written(data)):
-        for number_, reason in gate_faults(width, gate):
+    items = written(data)
+    for at, gate in enumerate(items):
+        for number_, reason in gate_faults(edition, width, gate):
             yield number_, reason, at
+    for reason in blocks.expansion(items)[1] if edition == 2 else ():
+        yield 16, reason, len(items)

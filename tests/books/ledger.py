@@ -4,13 +4,14 @@ A run that never met something it set out to meet has to fail: a list of demands
 """
 from collections import Counter
 
+import blocks
 import book as books
 import gates as g
 import order
 import tables
 
 # the numbers that a book can be refused by; 1, 4, 5, 13 and 14 need other calls
-REACHED_BY_BOOKS = (2, 3, 6, 7, 8, 9, 10, 11, 12)
+REACHED_BY_BOOKS = (2, 3, 6, 7, 8, 9, 10, 11, 12, 16)
 
 
 class Ledger:
@@ -71,8 +72,21 @@ class Ledger:
                 self.met[f"{len(circuit)} gates"] += 1
                 for code in {gate[0] for gate in circuit}:
                     self.met[f"code {code}, edition {book[2]}"] += 1
+                if any(item[0] in blocks.MARKS for item in circuit):
+                    self.note_blocks(circuit)
             else:
                 self.note_table(tables.read(entry.width, data))
+
+    def note_blocks(self, items):
+        deep, most = 0, 0
+        for code, times, _ in items:
+            deep += {blocks.OPEN: 1, blocks.CLOSE: -1}.get(code, 0)
+            most = max(most, deep)
+            if code == blocks.OPEN:
+                self.met[f"block {times} times"] += 1
+        self.met[f"blocks {most} deep"] += 1
+        self.met[f"{len(blocks.expansion(items)[0])} gates written out"] += 1
+        self.met[f"{len(items)} items with marks"] += 1
 
     def note_table(self, table):
         mark = "zero table" if table.zero else "table"
@@ -129,6 +143,8 @@ def place(first, other):
         return "in a body before" if other.stage == "body" and other.at < first.at else other.stage
     if other.at != first.at:
         return "a later body"
+    if other.number == 16:
+        return "its blocks"
     if first.gate < 0:
         return "the same body"
     return "the same gate" if first.gate == other.gate else "a later gate"
@@ -141,6 +157,10 @@ def answered_edges():
     yield from ("60000 bytes", "59999 bytes", "0 gates", "4095 gates", "4096 gates")
     yield from (f"circuit width {width}" for width in range(1, 32))
     yield from (f"code {code}, edition {edition}" for edition in g.EDITIONS for code in g.KNOWN)
+    yield from (f"code {code}, edition 2" for code in blocks.MARKS)
+    yield from (f"block {times} times" for times in (1, 2, 255))
+    yield from (f"blocks {deep} deep" for deep in range(1, 9))
+    yield from ("65536 gates written out", "65535 gates written out", "4096 items with marks")
     yield from (f"amplitude phase {phase}" for phase in range(8))
     yield from (f"amplitude power {power}" for power in range(-31, 1))
     yield from (f"table width {width}" for width in range(65))
@@ -160,7 +180,7 @@ def refused_edges():
     yield from ("9 by 60001 bytes", "9 by 17 bodies", "11 by 4097 gates", "11 by power 2001", "11 by power -2001")
     yield from (f"6 by circuit width {width}" for width in (0, *range(32, 256)))
     yield from (f"11 by table width {width}" for width in (65, 66, 128, 255))
-    yield from (f"7 by code {code}, edition {edition}" for edition in g.EDITIONS for code in g.UNKNOWN)
+    yield from (f"7 by code {code}, edition {edition}" for edition in g.EDITIONS for code in g.unknown(edition))
     yield from (f"9 by edition {edition}" for edition in (0, 3, 255))
 
 
@@ -179,7 +199,8 @@ def lone_faults():
         6: ("circuit width", "wire", "second wire"),
         8: ("input", "output"),
         7: ("unknown code",),
-        3: ("second byte",),
+        3: ("second byte", "count of 0", "wire byte of a close", "second byte of a mark"),
+        16: ("unclosed", "unopened", "empty", "depth", "too long"),
         2: ("wire twice",),
     }
     yield from (f"{number} by {reason} alone" for number, names in reasons.items() for reason in names)
@@ -193,6 +214,7 @@ def orders():
     yield from (f"{a} before {b}, a later body" for a in order.OF_BODIES for b in order.OF_BODIES if a != b)
     yield from (f"{a} before {b}, a later gate" for a in order.OF_GATES for b in order.OF_GATES if a != b)
     yield from (f"{a} before {b}, the same gate" for a, b in ((7, 6), (6, 3), (6, 2)))
+    yield from (f"{a} before 16, its blocks" for a in (*order.OF_GATES, 8, 11))
     yield from (f"11 before {b}, the same body" for b in (2, 3, 6, 7, 8, 12))
     yield from (f"6 before {b}, the same body" for b in (2, 3, 7, 8))
     yield from (f"8 before {b}, the same body" for b in (2, 3, 6, 7))

@@ -7,14 +7,17 @@ import bad_circuits
 import bad_frames
 import bad_tables
 import edges
+import some_blocks
 from book import lay
 
 OF_GATES = (2, 3, 6, 7)
-OF_BODIES = (2, 3, 6, 7, 8, 11, 12)
+OF_BODIES = (2, 3, 6, 7, 8, 11, 12, 16)  # 16 in edition 2; edition 1 refuses such a body by 7
 
 
 def bad_part(rng, number):
     """A body that is refused by a number."""
+    if number == 16:
+        return some_blocks.refused(rng)
     if number == 12:
         return bad_tables.refused_12(rng)
     if number == 11 and rng.getrandbits(1):

@@ -1,12 +1,15 @@
 """What this checker has to show of itself before it judges anything else. Each test answers how many cases it tried."""
 import itertools
 import random
+import re
 
+import blocks
 import book
 import by_hand
 import chform
 import exact
 import gates as g
+import some_blocks
 import some_circuits
 import some_tables
 import tables
@@ -95,6 +98,23 @@ def rotation(rng):
     return tried
 
 
+def expansions(rng):
+    """The stack against a rewriting of text: the innermost block is written out until none is left."""
+    def text(items):
+        return "".join({blocks.OPEN: f"({wire}:", blocks.CLOSE: ")"}.get(code, f"[{code},{wire},{second}]") for code, wire, second in items)
+
+    for _ in range(400):
+        items = some_blocks.nested(rng, 3, 8, rng.choice([3, 20, 200]))
+        said, left = text(items), 1
+        while left:
+            said, left = re.subn(r"\((\d+):((?:\[[^]]*\])+)\)", lambda m: int(m[1]) * m[2], said)
+        gates, faults = blocks.expansion(items)
+        demand(not faults and said == text(gates), items)
+    for reason in some_blocks.REASONS * 60:
+        demand(blocks.expansion(some_blocks.spoilt(rng, 3, reason))[1] == [reason], reason)
+    return 400 + 60 * len(some_blocks.REASONS)
+
+
 def hand_made_books(rng):
     tried = 0
     for data, said in by_hand.cases():
@@ -149,7 +169,7 @@ def normal_tables(rng):
     return 300
 
 
-TESTS = [values, narrow_circuits, wide_circuits, root_of_x, rotation, hand_made_books, normal_forms, normal_tables]
+TESTS = [values, narrow_circuits, wide_circuits, root_of_x, rotation, expansions, hand_made_books, normal_forms, normal_tables]
 
 
 def run(seed):

@@ -32,6 +32,9 @@ static void bodies(void)
     expect("its amplitude", kind == 1 && live == 0 && ties == 0 && zero == 0 && power == -1 && phase == 0);
 }
 
+/* A mark that closes a block, and an unknown code. */
+static const uint8_t unopened[] = {65, 0, 0, 9, 0, 0};
+
 static void amounts(void)
 {
     uint8_t zero = 200, phase = 201, kind = 202;
@@ -47,6 +50,9 @@ static void amounts(void)
     expect("output beyond the width", topazfern_amplitude(1, 31, 0, 0x80000000u, sound, 0, &zero, &power, &phase) == 8);
     expect("code 0", topazfern_amplitude(1, 1, 0, 0, sound, 3, &zero, &power, &phase) == 7);
     expect("code 0 in edition 2", topazfern_amplitude(2, 1, 0, 0, sound, 3, &zero, &power, &phase) == 7);
+    expect("a block in edition 1", topazfern_amplitude(1, 1, 0, 0, unopened, 3, &zero, &power, &phase) == 7);
+    expect("a block that was not opened", topazfern_amplitude(2, 1, 0, 0, unopened, 3, &zero, &power, &phase) == TOPAZFERN_BLOCK);
+    expect("a code before it", topazfern_amplitude(2, 1, 0, 0, unopened, 6, &zero, &power, &phase) == 7);
     expect("a body too short", topazfern_entry(sound, 13, 1, 0, &zero, &power, &phase) == 11);
     expect("an empty tie", topazfern_entry(empty_tie, sizeof empty_tie, 1, 0, &zero, &power, &phase) == 12);
     expect("a bit that is not live", topazfern_entry(sound, sizeof sound, 1, 2, &zero, &power, &phase) == 1);

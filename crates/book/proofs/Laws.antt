@@ -1,3 +1,4 @@
 pub mod Number
 pub mod Read
 pub mod Only
+pub mod Few

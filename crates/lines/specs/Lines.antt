@@ -3,6 +3,8 @@ use mathlib.Core.List.{List, _++_}
 use Prim.Native.Nat.{ℕ}
 use Rattle.exact.specs.declared.Amount.{Amount}
 use Rattle.exact.specs.declared.Amount.the-variants.{Zero, Some}
+use Rattle.exact.specs.declared.Chance.{Chance}
+use Rattle.exact.specs.declared.Chance.the-variants.{Never, OneOver}
 use Rattle.lines_words.specs.Text.{letters, digits, signedText}
 
 -- a word, a number and the newline
@@ -30,6 +32,15 @@ countsText live ties (Some s c) = digits live ++ letters " " ++ digits ties ++ l
 -- "or number, `T`, live, ties, power, phase"
 unfoldable pub tableLine : ℕ → ℕ → ℕ → Amount → List ℕ
 tableLine j live ties a = digits j ++ letters " T " ++ countsText live ties a ++ amountText a ++ letters "\n"
+
+-- "that power or `none`"
+unfoldable pub chanceText : Chance → List ℕ
+chanceText Never = letters "none"
+chanceText (OneOver e) = digits e
+
+-- "`amps` prints number, `R`, that power or `none`."
+unfoldable pub recordLine : ℕ → Chance → List ℕ
+recordLine j c = digits j ++ letters " R " ++ chanceText c ++ letters "\n"
 
 -- "A refused book gives the single line `refused` and the number."
 unfoldable pub refusedLine : ℕ → List ℕ

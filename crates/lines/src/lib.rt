@@ -1,6 +1,6 @@
 // The text of a listing, line by line, written as bytes into a lent area.
 ghost use Rattle.lines_words.specs.Overlay.{TextLaid};
-ghost use Rattle.lines.specs.Lines.{namedLine, bookLine, amountText, circuitLine, countsText, tableLine, refusedLine, refusedBodyLine};
+ghost use Rattle.lines.specs.Lines.{namedLine, bookLine, amountText, circuitLine, countsText, tableLine, chanceText, recordLine, refusedLine, refusedBodyLine};
 
 // A word, a number and the newline.
 fn named_line(area: &mut [u8], at: usize, word: &[u8], n: u8) -> usize
@@ -72,6 +72,26 @@ pub fn table_line(
     let q = lines_words::put_word(area, p, b" T ");
     let r = put_counts(area, q, live, ties, a);
     let s = put_amount(area, r, a);
+    lines_words::put_word(area, s, b"\n")
+}
+
+// A chance: `none`, or the power of two that it is one over.
+fn put_chance(area: &mut [u8], at: usize, c: exact::Chance) -> usize
+    ensures { λ r. ⌜ TextLaid (now (area .entry)) at (chanceText c) (now (area .exit)) r ⌝ }
+{
+    match c {
+        exact::Chance::Never => lines_words::put_word(area, at, b"none"),
+        exact::Chance::OneOver(e) => lines_words::put_number(area, at, e as u64),
+    }
+}
+
+// A record's line: its number, `R`, and its chance.
+pub fn record_line(area: &mut [u8], at: usize, j: u8, c: exact::Chance) -> usize
+    ensures { λ r. ⌜ TextLaid (now (area .entry)) at (recordLine j c) (now (area .exit)) r ⌝ }
+{
+    let p = lines_words::put_number(area, at, j as u64);
+    let q = lines_words::put_word(area, p, b" R ");
+    let s = put_chance(area, q, c);
     lines_words::put_word(area, s, b"\n")
 }
 

@@ -29,6 +29,7 @@ pub fn body_line(area: &mut [u8], at: usize, j: u8, b: Body) -> usize
     match s {
         Said::Refused(k) => lines::refused_body_line(area, at, j, k),
         Said::Circuit(a) => lines::circuit_line(area, at, j, a),
+        Said::Record(c) => lines::record_line(area, at, j, c),
         Said::Whole => {
             let live = bits::count(t.live);
             let ties = t.ties.count;

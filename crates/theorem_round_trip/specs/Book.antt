@@ -10,17 +10,18 @@ use Rattle.contents.specs.Contents.{editionOf, countOf, kindOf, widthOf, length
 use Rattle.contents_lay.specs.Lay.{laidStart, laidBytes, ContentsLaid}
 use Rattle.body_fields.specs.Fields.{joined}
 use Rattle.book.specs.Book.{bytesOf, BookNumber}
-use Rattle.book_bodies.specs.Number.{circuitBodyNumber, TableNumber}
+use Rattle.book_bodies.specs.Number.{circuitBodyNumber, recordBodyNumber, TableNumber}
 
 -- "Contents first, then bodies", "in order without gaps"
 unfoldable pub laidBook : ℕ → List ℕ → List ℕ → List ℕ → (ℕ → List ℕ) → List ℕ
 laidBook ed ks ws ls bodies = laidBytes ed ks ws ls ++ joined (length ks) bodies
 
--- body j is as long as the lists say, and on its own it is not refused in a book of this edition. "kind (1 circuit, 2 table)"
+-- body j is as long as the lists say, and on its own it is not refused in a book of this edition. "kind (1 circuit, 2 table)"; "Body kind 3 in edition 2"
 pub record Fits (ed : ℕ) (ks ws ls : List ℕ) (j : ℕ) (body : List ℕ) : Type 0 where
   pub long : length body ≡ getD ls j 0
   pub circuit : getD ks j 0 ≡ 1 → circuitBodyNumber ed (getD ws j 0) body ≡ accepted
   pub table : getD ks j 0 ≡ 2 → TableNumber (getD ws j 0) body accepted
+  pub recorded : getD ks j 0 ≡ 3 → recordBodyNumber (getD ws j 0) body ≡ accepted
 
 -- bs is a book that is not refused, of this edition, these lists and these bodies
 pub record Holds (ed : ℕ) (ks ws ls : List ℕ) (bodies : ℕ → List ℕ) (bs : List ℕ) : Type 0 where

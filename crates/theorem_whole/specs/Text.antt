@@ -1,4 +1,4 @@
--- Read this first: from a book's bytes to its listing's text in one statement, `Text` at the end. No struct of the code stands in this file: only bytes, matrices, whole numbers, text, and an amount (zero, or power and phase).
+-- Read this first: from a book's bytes to its listing's text in one statement, `Text` at the end. No struct of the code stands in this file: only bytes, matrices, whole numbers, text, an amount (zero, or power and phase) and a chance (none, or one over two to a power).
 -- What `listing::list` promises is this text (`bytes-to-text`), what `listing::list_strict` promises is `StrictText` (`bytes-to-strict-text`), no second text satisfies either (`one-text`, `one-strict-text`), and a table that was read has the entries that its bytes state (`bytes-to-entry`).
 use mathlib.Core.Bool.{Bool, true, false, cond}
 use mathlib.Core.List.{List, [], _++_}
@@ -10,16 +10,20 @@ use lib.Dec.{eqb}
 use lib.IntN.{pos}
 use Rattle.exact.specs.declared.Amount.{Amount}
 use Rattle.exact.specs.Amount.{none, some, Small}
+use Rattle.exact.specs.declared.Chance.{Chance}
+use Rattle.exact.specs.Chance.{chanceAmount}
 use Rattle.exact.specs.Refusal.{accepted, badBody, notNormal}
 use Rattle.exact.specs.Sum.{total}
 use Rattle.bits.specs.Mask.{bit}
 use Rattle.gates.specs.Matrix.{IsAmplitude}
+use Rattle.gates.specs.Read.{recordDialect}
 use Rattle.gates.specs.Circuit.{gatesOf as meant}
+use Rattle.gates.specs.Chance.{IsChance}
 use Rattle.contents.specs.Contents.{editionOf, countOf, kindOf, widthOf, contentsNumber}
 use Rattle.body_bytes.specs.Body.{markOf, phaseOf, powerOf, turnOf, rowOf, tieCount, maskOf, sideOf, bodyFault}
 use Rattle.book.specs.Book.{bytesOf}
-use Rattle.book_bodies.specs.Number.{inputOf, outputOf, gatesOf, circuitBodyNumber}
-use Rattle.lines.specs.Lines.{bookLine, circuitLine, tableLine, refusedLine, refusedBodyLine}
+use Rattle.book_bodies.specs.Number.{inputOf, outputOf, gatesOf, circuitBodyNumber, recordGates, recordBodyNumber}
+use Rattle.lines.specs.Lines.{bookLine, circuitLine, tableLine, recordLine, refusedLine, refusedBodyLine}
 
 -- ---- a circuit's line
 -- "number, `C`, power, phase": of an amount whose exact value is "the entry of the product, row output, column input", in the edition e of the book
@@ -28,6 +32,13 @@ pub record CircuitLine (e n : ℕ) (bs : List ℕ) (j : ℕ) (line : List ℕ) :
   pub small : Small amount
   pub value : IsAmplitude n (meant e n (gatesOf bs)) (inputOf bs) (outputOf bs) amount
   pub text : line ≡ circuitLine j amount
+
+-- ---- a record's line
+-- "number, `R`, that power or `none`": of a chance whose exact value is "the sum of squared sizes of its entries", of the column of the input string in "the plain product of gate matrices and cuts"
+pub record RecordLine (n : ℕ) (bs : List ℕ) (j : ℕ) (line : List ℕ) : Type 0 where
+  pub chance : Chance
+  pub value : IsChance n (meant recordDialect n (recordGates bs)) (inputOf bs) (chanceAmount chance)
+  pub text : line ≡ recordLine j chance
 
 -- ---- a table's line, and what the table's bytes mean
 -- "A tie says that the sum of a set of live bits is r modulo 2.": the first k ties of a body of width n hold at x
@@ -78,10 +89,11 @@ pub record TableRefusal (n : ℕ) (bs : List ℕ) (k : ℕ) : Type 0 where
   pub sound : bodyFault n bs ≡ false → NormalBody n bs → k ≡ accepted
   pub normal : k ≡ accepted → NormalBody n bs
 
--- k is the number of body j. "Circuits: 11, 6, 8, gates in order."
+-- k is the number of body j. "Circuits: 11, 6, 8, gates in order."; of records "otherwise as circuits"
 pub record BodyRefusal (bs : List ℕ) (j k : ℕ) : Type 0 where
   pub circuit : kindOf bs j ≡ 1 → k ≡ circuitBodyNumber (editionOf bs) (widthOf bs j) (bytesOf bs j)
   pub table : kindOf bs j ≡ 2 → TableRefusal (widthOf bs j) (bytesOf bs j) k
+  pub recorded : kindOf bs j ≡ 3 → k ≡ recordBodyNumber (widthOf bs j) (bytesOf bs j)
 
 -- the first of n bodies that is refused is refused by k; 0 where none is
 abbrev pub FirstRefusal : List ℕ → ℕ → ℕ → Type 0
@@ -95,13 +107,14 @@ pub record BookRefusal (bs : List ℕ) (k : ℕ) : Type 0 where
   pub bodies : contentsNumber bs ≡ accepted → FirstRefusal bs (countOf bs) k
 
 -- ---- the book
--- line j. "kind (1 circuit, 2 table)"; "number, `T`, live, ties, power, phase"; "`1 refused 7` in place of the answer"
+-- line j. "kind (1 circuit, 2 table)"; "Body kind 3 in edition 2"; "number, `T`, live, ties, power, phase"; "`1 refused 7` in place of the answer"
 pub record LineOf (bs : List ℕ) (j : ℕ) (line : List ℕ) : Type 0 where
   pub number : ℕ
   pub tested : BodyRefusal bs j number
   pub refused : number ≢ accepted → line ≡ refusedBodyLine j number
   pub circuit : number ≡ accepted → kindOf bs j ≡ 1 → CircuitLine (editionOf bs) (widthOf bs j) (bytesOf bs j) j line
   pub table : number ≡ accepted → kindOf bs j ≡ 2 → line ≡ tableLine j (widthOf bs j) (tieCount (widthOf bs j) (bytesOf bs j)) (stated (bytesOf bs j))
+  pub recorded : number ≡ accepted → kindOf bs j ≡ 3 → RecordLine (widthOf bs j) (bytesOf bs j) j line
 
 -- the first n lines
 unfoldable pub linesOf : ℕ → (ℕ → List ℕ) → List ℕ

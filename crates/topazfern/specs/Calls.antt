@@ -13,13 +13,21 @@ use Rattle.body_read.specs.Read.{Reads}
 use Rattle.body_write.specs.Write.{BodyWritten}
 use Rattle.book_bodies.specs.declared.Body.{Body}
 use Rattle.book.specs.Read.{ReadsBody, ReadsStrict}
-use Rattle.told.specs.Told.{Told, AnswerTold, Shown, BodyTold}
+use Rattle.exact.specs.declared.Told.{Told as ChanceAnswer}
+use Rattle.record.specs.Chanced.{Chanced}
+use Rattle.told.specs.Told.{Told, AnswerTold, Odds, ChanceTold, Shown, BodyTold}
 
 -- the amplitude of a circuit of an edition
 pub record AmplitudeTold (edition width input output : ℕ) (bs : List ℕ) (before : Told) (n : ℕ) (after : Told) : Type 0 where
   pub answer : Answer
   pub is : Amplitude edition width input output bs answer
   pub tells : AnswerTold answer before n after
+
+-- the chance of a record
+pub record RecordTold (width input : ℕ) (bs : List ℕ) (before : Odds) (n : ℕ) (after : Odds) : Type 0 where
+  pub answer : ChanceAnswer
+  pub is : Chanced width input bs answer
+  pub tells : ChanceTold answer before n after
 
 -- an entry of a table
 pub record EntryTells (t : State) (x : ℕ) (before : Told) (n : ℕ) (after : Told) : Type 0 where

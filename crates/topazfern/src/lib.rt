@@ -3,8 +3,8 @@ ghost use Rattle.cliffords.specs.Closing.{productNumber, inverseNumber, closing
 ghost use Rattle.told_cliffords.specs.Told.{ElementTold};
 ghost use Rattle.contents_lay.specs.Lay.{ContentsLaid};
 ghost use Rattle.listing.specs.Listing.{Listed, ListedStrict};
-ghost use Rattle.told.specs.Told.{behind, six};
-ghost use Rattle.topazfern.specs.Calls.{AmplitudeTold, EntryTold, WriteTold, ReadTold, StrictReadTold};
+ghost use Rattle.told.specs.Told.{behind, odds, six};
+ghost use Rattle.topazfern.specs.Calls.{AmplitudeTold, RecordTold, EntryTold, WriteTold, ReadTold, StrictReadTold};
 
 // The amplitude of a circuit of an edition.
 #[no_mangle]
@@ -24,6 +24,21 @@ pub extern "C" fn topazfern_amplitude(
     told::answer(a, zero, power, phase)
 }
 
+// The chance of a whole record, which is of edition 2.
+#[no_mangle]
+pub extern "C" fn topazfern_chance(
+    width: u8,
+    input: u32,
+    gates: &[u8],
+    never: &mut u8,
+    power: &mut u32,
+) -> u8
+    ensures { λ n. ⌜ RecordTold width input (now (gates .entry)) (odds (now (never .entry)) (now (power .entry))) n (odds (now (never .exit)) (now (power .exit))) ⌝ }
+{
+    let a = record::chance_of(width, input, gates);
+    told::chance(a, never, power)
+}
+
 // The listing of a book, with a line for each body. Answers its length, at most 312; what lies beyond the area's end is dropped.
 #[no_mangle]
 pub extern "C" fn topazfern_listing(book: &[u8], text: &mut [u8]) -> usize
@@ -40,7 +55,7 @@ pub extern "C" fn topazfern_listing_strict(book: &[u8], text: &mut [u8]) -> usiz
     listing::list_strict(book, text)
 }
 
-// Body j of a book, whatever its other bodies are: its kind, for a table its live bits and ties, and its amount.
+// Body j of a book, whatever its other bodies are: its kind, for a table its live bits and ties, and its amount; of a record its chance as an amount.
 #[no_mangle]
 pub extern "C" fn topazfern_read(
     book: &[u8],

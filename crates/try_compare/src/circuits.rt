@@ -97,3 +97,75 @@ pub(crate) fn gates(stream: u64, width: u8) -> [u8; 900] {
     }
     bytes
 }
+
+// Byte `k` of gate `n` of those given.
+fn gate_byte(gates: &[u8], n: usize, k: usize) -> u8 {
+    let at = 3 * (n % 8) + k % 3;
+    if at < gates.len() { gates[at] } else { 0 }
+}
+
+// Byte `k` of the mark that opens a block to be run so many times.
+fn opening(times: u8, k: usize) -> u8 {
+    match k {
+        0 => 64,
+        1 => times,
+        _ => 0,
+    }
+}
+
+// Byte `k` of the mark that closes a block.
+fn closing(k: usize) -> u8 {
+    if k == 0 { 65 } else { 0 }
+}
+
+// Byte `k` of item `j` of a body of eight gates: two, twice (two, three times two), two.
+fn item_byte(gates: &[u8], j: usize, k: usize) -> u8 {
+    match j {
+        0..=1 => gate_byte(gates, j, k),
+        2 => opening(2, k),
+        3 => gate_byte(gates, 2, k),
+        4 => gate_byte(gates, 3, k),
+        5 => opening(3, k),
+        6 => gate_byte(gates, 4, k),
+        7 => gate_byte(gates, 5, k),
+        8 | 9 => closing(k),
+        10 => gate_byte(gates, 6, k),
+        _ => gate_byte(gates, 7, k),
+    }
+}
+
+// That body: eight gates and four marks.
+pub(crate) fn in_blocks(gates: &[u8]) -> [u8; 36] {
+    let mut bytes = [0u8; 36];
+    let mut i: usize = 0;
+    while i < 36 {
+        bytes[i] = item_byte(gates, i / 3, i % 3);
+        i += 1;
+    }
+    bytes
+}
+
+// Which gate is applied as number `j` of that body's twenty, read off by hand.
+fn applied(j: usize) -> usize {
+    match j {
+        0 => 0,
+        1 => 1,
+        2 | 10 => 2,
+        3 | 11 => 3,
+        4 | 6 | 8 | 12 | 14 | 16 => 4,
+        5 | 7 | 9 | 13 | 15 | 17 => 5,
+        18 => 6,
+        _ => 7,
+    }
+}
+
+// The same body written out: twenty gates.
+pub(crate) fn written_out(gates: &[u8]) -> [u8; 60] {
+    let mut bytes = [0u8; 60];
+    let mut i: usize = 0;
+    while i < 60 {
+        bytes[i] = gate_byte(gates, applied(i / 3), i % 3);
+        i += 1;
+    }
+    bytes
+}

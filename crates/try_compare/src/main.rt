@@ -1,4 +1,4 @@
-// Amplitudes of pseudo-random circuits compared with the product of the gates' matrices, at every output string, in both editions. The expected numbers are those of tests/try_compare.py.
+// Amplitudes of pseudo-random circuits compared with the product of the gates' matrices, at every output string, in both editions and with a block in a block. The expected numbers are those of tests/try_compare.py.
 mod circuits;
 mod plain;
 mod tally;
@@ -59,8 +59,8 @@ fn is_answer(v: Value, n: u64, a: Answer) -> bool {
     }
 }
 
-// The circuit of an edition from `input` to every output.
-fn outputs(edition: u8, width: u8, input: u64, gates: &[u8]) -> Tally {
+// The circuit of an edition from `input` to every output: of its bytes the amplitudes, of its gates written out the product.
+fn outputs(edition: u8, width: u8, input: u64, gates: &[u8], bytes: &[u8]) -> Tally {
     let product = plain::run(edition, gates, input);
     let n = roots(edition, gates);
     let from = (input % 64) as u32;
@@ -69,7 +69,7 @@ fn outputs(edition: u8, width: u8, input: u64, gates: &[u8]) -> Tally {
     let mut q: u64 = 0;
     while q < strings {
         let v = product.at(q);
-        let a = circuit::amplitude(edition, width, from, q as u32, gates);
+        let a = circuit::amplitude(edition, width, from, q as u32, bytes);
         t = t.plus(Tally::one(is_answer(v, n, a), v.same(Value::zero())));
         q += 1;
     }
@@ -82,16 +82,28 @@ fn trial(edition: u8, width: u8, number: u64) -> Tally {
     let gates = circuits::gates(stream, width);
     let input = try_draw::word(stream, 4096) & std::num::wrapping_sub_u64(plain::place(width), 1);
     let end = 3 * length(number);
-    outputs(edition, width, input, &gates[..end])
+    let part = &gates[..end];
+    outputs(edition, width, input, part, part)
 }
 
-// The circuits of a width in both editions, and a line.
+// The first eight gates of the same circuit with a block in a block.
+fn repeated(width: u8, number: u64) -> Tally {
+    let stream = number ^ ((width as u64) << 32);
+    let gates = circuits::gates(stream, width);
+    let input = try_draw::word(stream, 4096) & std::num::wrapping_sub_u64(plain::place(width), 1);
+    let whole = circuits::written_out(&gates);
+    let body = circuits::in_blocks(&gates);
+    outputs(2, width, input, &whole, &body)
+}
+
+// The circuits of a width in both editions and in blocks, and a line.
 fn run(width: u8) -> Tally {
     let mut t = Tally::none();
     let mut number: u64 = 0;
     while number < CIRCUITS {
         t = t.plus(trial(1, width, number));
         t = t.plus(trial(2, width, number));
+        t = t.plus(repeated(width, number));
         number += 1;
     }
     io::write_all(1, b"width ");
@@ -101,7 +113,7 @@ fn run(width: u8) -> Tally {
     t
 }
 
-// The widths 1 to 6, and all together: 2 · 104 · 126 = 26208 amplitudes.
+// The widths 1 to 6, and all together: 3 · 104 · 126 = 39312 amplitudes.
 fn main() {
     let small = run(1).plus(run(2)).plus(run(3));
     let all = small.plus(run(4)).plus(run(5)).plus(run(6));

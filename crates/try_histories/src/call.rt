@@ -1,4 +1,5 @@
 // A call that a record says, made on the library.
+use super::case;
 use super::digest;
 use super::print;
 use super::record;
@@ -6,6 +7,7 @@ use super::record::Record;
 use exact::Eighth;
 use exact::Quarter;
 use exact::Slot;
+use state::Rule;
 use table::Changed;
 use table::Table;
 
@@ -18,12 +20,11 @@ fn changed(r: Record, t: Table) -> Changed {
         2 => t.sign(v, Slot(r.place as usize)),
         3 => t.scale(record::power(r.word), Eighth(r.small)),
         4 => t.tie(r.word, r.small),
-        5 => t.sum(v),
         _ => t.fix(v, r.small),
     }
 }
 
-// The table after the call of a code below 8 on `t`, a join with `other`; what else it answers is printed: the number of refusal or 0, the slot of a new bit, the places of a join.
+// The table after the call of a code below 8 on `t`, a join with `other`; what else it answers is printed: the number of refusal or 0, the slot of a new bit, the case of a sum and the one that the fields before it say, the places of a join.
 pub(crate) fn made(r: Record, t: Table, other: Table) -> Table {
     let code = r.code;
     match code {
@@ -32,6 +33,19 @@ pub(crate) fn made(r: Record, t: Table, other: Table) -> Table {
             print::number(o.refusal as u64);
             print::number(o.slot.0 as u64);
             o.table
+        }
+        5 => {
+            let s = t.state;
+            let c = t.sum(Slot(r.word as usize));
+            let rule = c.rule;
+            print::number(c.refusal as u64);
+            print::rule(rule);
+            print::rule(if c.refusal == 0 {
+                case::by_fields(s, r.word)
+            } else {
+                Rule::None
+            });
+            c.table
         }
         7 => {
             let j = t.join(other);

@@ -1,5 +1,6 @@
 // The parts of a line.
 use call_answers::Counted;
+use state::Rule;
 
 // A number, and the space behind it.
 pub(crate) fn number(n: u64) {
@@ -19,6 +20,30 @@ pub(crate) fn spread(s: Counted) {
         }
         Counted::Exponent(e) => {
             number(e as u64);
+        }
+    }
+}
+
+// A case.
+pub(crate) fn rule(r: Rule) {
+    match r {
+        Rule::None => {
+            io::write_all(1, b"none ");
+        }
+        Rule::Tied => {
+            io::write_all(1, b"tied ");
+        }
+        Rule::Odd => {
+            io::write_all(1, b"odd ");
+        }
+        Rule::NewTie => {
+            io::write_all(1, b"new-tie ");
+        }
+        Rule::Free => {
+            io::write_all(1, b"free ");
+        }
+        Rule::Vanished => {
+            io::write_all(1, b"vanished ");
         }
     }
 }

@@ -1,4 +1,4 @@
-// The cases of document 01 that are worked by hand, run by the code: a line for each, in that paper's order, then the spreads of request A1. The expected lines are worked by hand.
+// The cases of document 01 that are worked by hand, run by the code: a line for each, in that paper's order, with those of both editions and of repeated blocks, then the spreads of request A1 and the cases of request A6. The expected lines are worked by hand.
 use call_answers::Counted;
 use doubles::Doubles;
 use exact::Amount;
@@ -7,7 +7,8 @@ use exact::Eighth;
 use exact::Power;
 use exact::Quarter;
 use exact::Slot;
-use table::Changed;
+use state::Rule;
+use table::Summed;
 use table::Table;
 
 // An amount: zero, or its power and its phase.
@@ -41,8 +42,8 @@ fn show(name: &[u8], a: Answer) {
     io::write_all(1, b"\n");
 }
 
-// The entry of what a call left where every bit is 0, or the call's refusal.
-fn outcome(c: Changed) -> Answer {
+// The entry of what a sum left where every bit is 0, or its refusal; the case is dropped, since these lines show the entry alone.
+fn outcome(c: Summed) -> Answer {
     if c.refusal != 0 {
         return Answer::Refused(c.refusal);
     }
@@ -68,11 +69,15 @@ fn signed(t: Table, u: usize, v: usize) -> Table {
     c.table
 }
 
-// One bit with a power and a turn, summed.
-fn one_bit(power: i32, k: u8) -> Answer {
+// One bit with a power and a turn.
+fn bit(power: i32, k: u8) -> Table {
     let c = Table::fresh().scale(Power(power), Eighth(0));
-    let t = turned(wider(c.table), 0, k);
-    outcome(t.sum(Slot(0)))
+    turned(wider(c.table), 0, k)
+}
+
+// The same, summed.
+fn one_bit(power: i32, k: u8) -> Answer {
+    outcome(bit(power, k).sum(Slot(0)))
 }
 
 // "Two bits with a sign, each quarter 1, sum both"
@@ -198,6 +203,84 @@ fn editions() {
     show(b"edition 3", circuit::amplitude(3, 0, 0, 0, b"\x01\x00"));
 }
 
+// Repeated blocks: what bodies of edition 2 mean.
+fn blocks() {
+    let thrice = b"\x40\x03\x00\x01\x00\x00\x02\x00\x00\x41\x00\x00";
+    show(
+        b"three times (H, S): 0 to 0",
+        circuit::amplitude(2, 1, 0, 0, thrice),
+    );
+    let often = b"\x40\xFF\x00\x05\x00\x00\x41\x00\x00";
+    show(
+        b"255 times X: 0 to 1",
+        circuit::amplitude(2, 1, 0, 1, often),
+    );
+    let nested = b"\x40\x02\x00\x02\x00\x00\x40\x03\x00\x05\x00\x00\x41\x00\x00\x41\x00\x00";
+    show(
+        b"twice (S, three times X): 0 to 0",
+        circuit::amplitude(2, 1, 0, 0, nested),
+    );
+    show(
+        b"twice (S, three times X): 1 to 1",
+        circuit::amplitude(2, 1, 1, 1, nested),
+    );
+    let deep =
+        b"\x40\x01\x00\x40\x01\x00\x40\x01\x00\x40\x01\x00\x40\x01\x00\x40\x01\x00\x40\x01\x00\x40\x01\x00\x05\x00\x00\x41\x00\x00\x41\x00\x00\x41\x00\x00\x41\x00\x00\x41\x00\x00\x41\x00\x00\x41\x00\x00\x41\x00\x00";
+    show(
+        b"X in eight blocks: 0 to 1",
+        circuit::amplitude(2, 1, 0, 1, deep),
+    );
+    let most =
+        b"\x40\xFF\x00\x05\x00\x00\x40\xFE\x00\x05\x00\x00\x41\x00\x00\x41\x00\x00\x40\xFF\x00\x05\x00\x00\x41\x00\x00\x40\xFF\x00\x05\x00\x00\x41\x00\x00\x05\x00\x00";
+    show(
+        b"65,536 times X: 0 to 0",
+        circuit::amplitude(2, 1, 0, 0, most),
+    );
+}
+
+// Blocks that are refused.
+fn bad_blocks() {
+    let deep =
+        b"\x40\x01\x00\x40\x01\x00\x40\x01\x00\x40\x01\x00\x40\x01\x00\x40\x01\x00\x40\x01\x00\x40\x01\x00\x40\x01\x00\x05\x00\x00\x41\x00\x00\x41\x00\x00\x41\x00\x00\x41\x00\x00\x41\x00\x00\x41\x00\x00\x41\x00\x00\x41\x00\x00\x41\x00\x00";
+    show(b"X in nine blocks", circuit::amplitude(2, 1, 0, 1, deep));
+    let more =
+        b"\x40\xFF\x00\x05\x00\x00\x40\xFE\x00\x05\x00\x00\x41\x00\x00\x41\x00\x00\x40\xFF\x00\x05\x00\x00\x41\x00\x00\x40\xFF\x00\x05\x00\x00\x41\x00\x00\x05\x00\x00\x05\x00\x00";
+    show(b"65,537 times X", circuit::amplitude(2, 1, 0, 0, more));
+    show(
+        b"a block unclosed",
+        circuit::amplitude(2, 1, 0, 0, b"\x40\x03\x00\x01\x00\x00"),
+    );
+    show(
+        b"a block unopened",
+        circuit::amplitude(2, 1, 0, 0, b"\x41\x00\x00"),
+    );
+    show(
+        b"a block empty",
+        circuit::amplitude(2, 1, 0, 0, b"\x40\x03\x00\x41\x00\x00"),
+    );
+    show(
+        b"a block unopened, then code 9",
+        circuit::amplitude(2, 1, 0, 0, b"\x41\x00\x00\x09\x00\x00"),
+    );
+    let none = b"\x40\x00\x00\x01\x00\x00\x41\x00\x00";
+    show(b"a count of 0", circuit::amplitude(2, 1, 0, 0, none));
+    let stray = b"\x40\x03\x01\x01\x00\x00\x41\x00\x00";
+    show(
+        b"an opening with a second byte",
+        circuit::amplitude(2, 1, 0, 0, stray),
+    );
+    let counted = b"\x40\x03\x00\x01\x00\x00\x41\x01\x00";
+    show(
+        b"a closing with a count",
+        circuit::amplitude(2, 1, 0, 0, counted),
+    );
+    let early = b"\x40\x03\x00\x01\x00\x00\x41\x00\x00";
+    show(
+        b"a block in edition 1",
+        circuit::amplitude(1, 1, 0, 0, early),
+    );
+}
+
 // A circuit for each number that refuses one.
 fn refusals() {
     show(
@@ -261,9 +344,61 @@ fn spreads() {
     show_spread(b"one bit, quarter 2, sum", e.table.spread());
 }
 
+// A line: the sum, and the case that applied, or the refusal, which has none.
+fn show_rule(name: &[u8], c: Summed) {
+    io::write_all(1, name);
+    io::write_all(1, b": ");
+    if c.refusal != 0 {
+        io::write_all(1, b"refused ");
+        io::print_decimal(1, c.refusal as u64);
+        io::write_all(1, b", ");
+    }
+    let rule = c.rule;
+    match rule {
+        Rule::None => {
+            io::write_all(1, b"no case\n");
+        }
+        Rule::Tied => {
+            io::write_all(1, b"case tied\n");
+        }
+        Rule::Odd => {
+            io::write_all(1, b"case odd\n");
+        }
+        Rule::NewTie => {
+            io::write_all(1, b"case new tie\n");
+        }
+        Rule::Free => {
+            io::write_all(1, b"case free\n");
+        }
+        Rule::Vanished => {
+            io::write_all(1, b"case vanished\n");
+        }
+    }
+}
+
+// Which case applied: each of them, a tie before an odd turn, a refused sum, and a table that was zero before.
+fn rules() {
+    show_rule(b"one bit, quarter 0, sum", bit(0, 0).sum(Slot(0)));
+    show_rule(b"one bit, quarter 1, sum", bit(0, 1).sum(Slot(0)));
+    show_rule(b"one bit, quarter 2, sum", bit(0, 2).sum(Slot(0)));
+    show_rule(b"one bit, quarter 3, sum", bit(0, 3).sum(Slot(0)));
+    let a = wider(wider(Table::fresh())).tie(3, 0);
+    let b = turned(a.table, 1, 1);
+    show_rule(b"tie 0 1 even, quarter 1 on slot 1, sum 1", b.sum(Slot(1)));
+    let c = signed(wider(wider(Table::fresh())), 0, 1);
+    show_rule(b"two bits with a sign, sum 0", c.sum(Slot(0)));
+    show_rule(b"power 2000, quarter 0, sum", bit(2000, 0).sum(Slot(0)));
+    show_rule(b"power 2000, quarter 2, sum", bit(2000, 2).sum(Slot(0)));
+    let d = wider(Table::fresh()).tie(0, 1);
+    show_rule(b"zero table, sum", d.table.sum(Slot(0)));
+    show_rule(b"a free slot, sum", bit(0, 0).sum(Slot(1)));
+}
+
 fn main() {
     one_wire();
     editions();
+    blocks();
+    bad_blocks();
     pair();
     show(b"one bit, quarter 0, sum", one_bit(0, 0));
     show(b"one bit, quarter 1, sum", one_bit(0, 1));
@@ -282,4 +417,5 @@ fn main() {
     half();
     refusals();
     spreads();
+    rules();
 }

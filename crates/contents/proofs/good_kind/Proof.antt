@@ -1,4 +1,5 @@
 -- `good_kind` meets its contract: test by test.
+use native.Mathlib.Omega.{arith}
 use Rattle.contents.proofs.Laws.Entry.{kind-one, kind-two, kind-first, kind-three}
 use Rattle.contents.proofs.good_kind.Statement.{statement}
 use Rattle.contents.proofs.good_kind.Tie as tie
@@ -16,7 +17,7 @@ returns-2 c =
 returns-3 : tie.Need-returns-3
 returns-3 c =
     let a = c .before .before .before .args in
-    kind-first (a .edition) (a .kind) (c .before .before .if1 .left) (c .before .if2 .left) (c .if3 .taken)
+    kind-first (a .edition) (a .kind) (c .before .before .if1 .left) (c .before .if2 .left) (λ e. omega (arith, e))
 
 returns-4 : tie.Need-returns-4
 returns-4 c =

@@ -5,8 +5,11 @@ use lib.IntN.{ℤ, pos, negsuc, natAbs}
 use lib.ListN.{length, length-append}
 use Rattle.exact.specs.declared.Amount.{Amount}
 use Rattle.exact.specs.declared.Amount.the-variants.{Zero, Some}
+use Rattle.exact.specs.declared.Chance.{Chance}
+use Rattle.exact.specs.declared.Chance.the-variants.{Never, OneOver}
+use Rattle.exact.specs.Chance.{powerOf}
 use Rattle.lines_words.specs.Text.{letters, digits, signedText}
-use Rattle.lines.specs.Lines.{namedLine, bookLine, amountText, circuitLine, countsText, tableLine, refusedLine, refusedBodyLine}
+use Rattle.lines.specs.Lines.{namedLine, bookLine, amountText, circuitLine, countsText, tableLine, chanceText, recordLine, refusedLine, refusedBodyLine}
 use Rattle.lines_words.proofs.Laws.Digits.{digits-length}
 
 -- an amount in its range: "a power from −2,000 to 2,000", "a phase c (0..7)"
@@ -49,6 +52,15 @@ circuit-length j a h l = simp length-append (omega (arith, two j h, amount a l))
 pub table-length : (j live ties : ℕ) (a : Amount) → j < 100 → live < 100 → ties < 100 → InRange a → length (tableLine j live ties a) ≤ 19
 unfolding tableLine letters
 table-length j live ties a h g m l = simp length-append (omega (arith, two j h, counts live ties a g m, amount a l))
+
+chance : (c : Chance) → powerOf c ≤ 65536 → length (chanceText c) ≤ 5
+unfolding chanceText letters
+chance Never h = omega arith
+chance (OneOver e) h = digits-length 4 e (omega arith)
+
+pub record-length : (j : ℕ) (c : Chance) → j < 100 → powerOf c ≤ 65536 → length (recordLine j c) ≤ 11
+unfolding recordLine letters
+record-length j c h l = simp length-append (omega (arith, two j h, chance c l))
 
 pub refused-length : (n : ℕ) → n < 1000 → length (refusedLine n) ≤ 12
 unfolding refusedLine namedLine letters

@@ -3,8 +3,9 @@ use mathlib.Core.Path.{_≡_, refl}
 use mathlib.Core.List.{[], _∷_, _++_}
 use lib.IntN.{pos, negsuc}
 use Rattle.exact.specs.Amount.{none, some}
+use Rattle.exact.specs.declared.Chance.the-variants.{Never, OneOver}
 use Rattle.lines_words.specs.Text.{letters, lastDigits, digits, signedText}
-use Rattle.lines.specs.Lines.{namedLine, bookLine, amountText, circuitLine, countsText, tableLine, refusedLine}
+use Rattle.lines.specs.Lines.{namedLine, bookLine, amountText, circuitLine, countsText, tableLine, chanceText, recordLine, refusedLine}
 
 -- ---- numbers
 pub digits-0 : digits 0 ≡ letters "0"
@@ -66,3 +67,12 @@ table-zero = refl
 pub refused-12 : refusedLine 12 ≡ letters "refused 12\n"
 unfolding refusedLine namedLine digits lastDigits letters
 refused-12 = refl
+
+-- the longest line of a record
+pub record-far : recordLine 15 (OneOver 32768) ≡ letters "15 R 32768\n"
+unfolding recordLine chanceText digits lastDigits letters
+record-far = refl
+
+pub record-none : recordLine 0 Never ≡ letters "0 R none\n"
+unfolding recordLine chanceText digits lastDigits letters
+record-none = refl

@@ -22,13 +22,14 @@ use Rattle.contents.proofs.Laws.Good.{good}
 use Rattle.body_bytes.specs.Body.{bodyFault}
 use Rattle.body_read.specs.Table.{tableOf}
 use Rattle.lines.specs.Lines.{bookLine, refusedLine}
-use Rattle.lines.proofs.Laws.Lengths.{InRange, book-length, circuit-length, table-length, refused-length, refused-body-length}
+use Rattle.lines.proofs.Laws.Lengths.{InRange, book-length, circuit-length, table-length, record-length, refused-length, refused-body-length}
 use Rattle.book_bodies.specs.declared.Body.{Body}
 use Rattle.book.specs.Book.{bytesOf}
-use Rattle.book_bodies.specs.Number.{circuitBodyNumber}
+use Rattle.book_bodies.specs.Number.{circuitBodyNumber, recordBodyNumber}
 use Rattle.book.specs.Read.{ReadsBody}
-use Rattle.book_bodies.specs.Answer.{refusal, tableBody, saidNumber, saidAmount, CircuitAnswer, TableAnswer}
+use Rattle.book_bodies.specs.Answer.{refusal, tableBody, saidNumber, saidAmount, saidChance, CircuitAnswer, RecordAnswer, TableAnswer}
 use Rattle.book_bodies.proofs.Laws.Circuit.{circuit-body-small}
+use Rattle.book_bodies.proofs.Laws.Record.{record-body-small}
 use Rattle.listing_line.specs.Line.{tableAmount, bodyLine}
 use Rattle.listing.specs.Listing.{bodyLines}
 
@@ -67,6 +68,14 @@ module _ (j : ℕ) (h : j < 16) where
       (λ (ne : circuitBodyNumber ed n bs ≢ 0). subst (λ (c : Body). long j c ≤ 19) (sym (A .refused ne)) (refused-body (circuitBodyNumber ed n bs) (circuit-body-small ed n bs)))
       (same-or (circuitBodyNumber ed n bs) 0)
 
+  record-short : (n : ℕ) (bs : List ℕ) (b : Body) → RecordAnswer n bs b → long j b ≤ 19
+  unfolding long bodyLine
+  record-short n bs b A =
+      ⊎-elim
+      (λ (z : recordBodyNumber n bs ≡ 0). subst (λ (c : Body). long j c ≤ 19) (sym (A .given z)) (omega (arith, record-length j (saidChance (b .said)) (omega arith) (A .value z .few))))
+      (λ (ne : recordBodyNumber n bs ≢ 0). subst (λ (c : Body). long j c ≤ 19) (sym (A .refused ne)) (refused-body (recordBodyNumber n bs) (record-body-small n bs)))
+      (same-or (recordBodyNumber n bs) 0)
+
   whole-short : (t : State) → Normal t → long j (tableBody t) ≤ 19
   unfolding long bodyLine
   whole-short t N =
@@ -94,7 +103,8 @@ module _ (bs : List ℕ) (z : contentsNumber bs ≡ 0) where
   line-short j b h R =
       let a = R .answer z h in
       ⊎-elim (λ c. circuit-short j (omega (arith, few, h)) (editionOf bs) (widthOf bs j) (bytesOf bs j) b (a .circuit c))
-      (λ c. table-short j (omega (arith, few, h)) (widthOf bs j) (bytesOf bs j) b (a .table c)) (good bs z .body j h (entryOf bs j) refl .kind)
+      (λ o. ⊎-elim (λ c. table-short j (omega (arith, few, h)) (widthOf bs j) (bytesOf bs j) b (a .table c))
+      (λ c. record-short j (omega (arith, few, h)) (widthOf bs j) (bytesOf bs j) b (a .recorded (c .1))) o) (good bs z .body j h (entryOf bs j) refl .kind)
 
   lines-short : (f : ℕ → Body) → ((j : ℕ) → j < countOf bs → ReadsBody bs j (f j)) → (n : ℕ) → n ≤ countOf bs → length (bodyLines n f) ≤ 19 * n
   unfolding bodyLines long

@@ -23,6 +23,12 @@ enum-known-s-2 c = search needs
 circuit-line-requires : tie.Need-circuit-line-requires
 circuit-line-requires c κs = search needs
 
+enum-known-s-3 : tie.Need-enum-known-s-3
+enum-known-s-3 c = search needs
+
+record-line-requires : tie.Need-record-line-requires
+record-line-requires c κs = search needs
+
 enum-told : tie.Need-enum-told
 enum-told c = search needs
 
@@ -59,6 +65,15 @@ same-length-3 c = search needs
 returns-3 : tie.Need-returns-3
 unfolding bodyLine
 returns-3 c =
+    let k = c .before .before .before .before .before .before .before .before .before in
+    laid-text (sym (ap (λ (s : Said). bodyLine (k .args .j) s (k .args .b .table)) (c .before .before .before .before .before .s3 .given .1))) (c .before .before .record-line .ensures)
+
+same-length-4 : tie.Need-same-length-4
+same-length-4 c = search needs
+
+returns-4 : tie.Need-returns-4
+unfolding bodyLine
+returns-4 c =
     let k = c .before .before .before .before .before .before .before .before .before .before in
     let t = k .args .b .table in
     let told = c .before .before .before .before .before .before .enum-told .given .1 in
@@ -75,6 +90,8 @@ body-line-spec =
     refused-body-line-requires
     enum-known-s-2
     circuit-line-requires
+    enum-known-s-3
+    record-line-requires
     enum-told
     count-requires
     table-amount-requires
@@ -84,4 +101,6 @@ body-line-spec =
     same-length-2
     returns-2
     same-length-3
-    returns-3)
+    returns-3
+    same-length-4
+    returns-4)

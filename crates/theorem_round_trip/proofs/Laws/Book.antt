@@ -16,7 +16,7 @@ use Rattle.contents_lay.proofs.Laws.Laid.{length-laid}
 use Rattle.contents_lay.proofs.Laws.Round.{Round, round}
 use Rattle.body_fields.specs.Fields.{joined}
 use Rattle.book.specs.Book.{bytesOf, BodyNumber}
-use Rattle.book_bodies.specs.Number.{circuitBodyNumber, TableNumber}
+use Rattle.book_bodies.specs.Number.{circuitBodyNumber, recordBodyNumber, TableNumber}
 use Rattle.book.proofs.Laws.Number.{book-clear}
 use Rattle.theorem_round_trip.specs.Book.{laidBook, Fits, Holds}
 use Rattle.theorem_round_trip.proofs.Laws.Joined.{joined-length, joined-at}
@@ -69,6 +69,7 @@ module _ (room ed : ℕ) (ks ws ls : List ℕ) (bodies : ℕ → List ℕ) (z : 
       table = λ k.
           subst (λ (n : ℕ). TableNumber n (bytesOf book j) accepted) (sym width-is)
           (subst (λ (l : List ℕ). TableNumber (getD ws j 0) l accepted) (sym body-is) (fits j h .table (sym kind-is ∙ k)));
+      recorded = λ k. sym (ap₂ recordBodyNumber width-is body-is ∙ fits j h .recorded (sym kind-is ∙ k));
     }
 
   -- the whole book

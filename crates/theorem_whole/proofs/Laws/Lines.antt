@@ -1,4 +1,4 @@
--- The line of a body that is not refused, from what reading it promises: a circuit's by the matrices, a table's by its bytes.
+-- The line of a body that is not refused, from what reading it promises: a circuit's and a record's by the matrices, a table's by its bytes.
 use mathlib.Core.Bool.{Bool, true, false, cond}
 use mathlib.Core.List.{List}
 use mathlib.Core.Path.{_≡_, refl, _∙_, ap}
@@ -15,14 +15,15 @@ use Rattle.bits.specs.Mask.{bit}
 use Rattle.bits.proofs.Laws.First.{first-bit}
 use Rattle.bits.proofs.Laws.Parity.{ones-total}
 use Rattle.gates.specs.Circuit.{circuitNumber}
+use Rattle.gates.specs.Record.{recordNumber}
 use Rattle.body_bytes.specs.Body.{tieCount, bodyFault}
 use Rattle.body_read.specs.Table.{formOf, tiesOf, tableOf}
 use Rattle.book_bodies.specs.declared.Body.{Body}
-use Rattle.book_bodies.specs.Number.{inputOf, outputOf, gatesOf, circuitBodyNumber, TableNumber}
-use Rattle.book_bodies.specs.Answer.{saidAmount, CircuitAnswer, TableAnswer}
+use Rattle.book_bodies.specs.Number.{inputOf, outputOf, gatesOf, circuitBodyNumber, recordGates, recordBodyNumber, TableNumber}
+use Rattle.book_bodies.specs.Answer.{saidAmount, saidChance, CircuitAnswer, RecordAnswer, TableAnswer}
 use Rattle.lines.specs.Lines.{tableLine}
 use Rattle.listing_line.specs.Line.{bodyLine}
-use Rattle.theorem_whole.specs.Text.{CircuitLine, stated}
+use Rattle.theorem_whole.specs.Text.{CircuitLine, RecordLine, stated}
 
 -- the mask of the n lowest bits has n of them
 total-ones : (n : ℕ) → total n (λ v. 1) ≡ n
@@ -49,6 +50,23 @@ unfolding circuitBodyNumber
 circuit-passed ed n bs z = go (ltb (length bs) 8) z
   where
     go : (b : Bool) → cond b badBody (circuitNumber ed n (inputOf bs) (outputOf bs) (gatesOf bs)) ≡ accepted → circuitNumber ed n (inputOf bs) (outputOf bs) (gatesOf bs) ≡ accepted
+    go true e = absurd (omega (arith, e))
+    go false e = e
+
+-- ---- a record's line
+pub record-line : (n j : ℕ) (bs : List ℕ) (r : Body) → recordBodyNumber n bs ≡ accepted → recordNumber n (inputOf bs) (recordGates bs) ≡ accepted → RecordAnswer n bs r → RecordLine n bs j (bodyLine j (r .said) (r .table))
+unfolding bodyLine
+record-line n j bs r z w A = record {
+  chance = saidChance (r .said);
+  value = A .value z .value w;
+  text = ap (λ (b : Body). bodyLine j (b .said) (b .table)) (A .given z);
+}
+
+pub record-passed : (n : ℕ) (bs : List ℕ) → recordBodyNumber n bs ≡ accepted → recordNumber n (inputOf bs) (recordGates bs) ≡ accepted
+unfolding recordBodyNumber
+record-passed n bs z = go (ltb (length bs) 4) z
+  where
+    go : (b : Bool) → cond b badBody (recordNumber n (inputOf bs) (recordGates bs)) ≡ accepted → recordNumber n (inputOf bs) (recordGates bs) ≡ accepted
     go true e = absurd (omega (arith, e))
     go false e = e
 

@@ -12,8 +12,8 @@ use Rattle.body_bytes.proofs.Laws.Fine.{fine}
 use Rattle.book.specs.Book.{bytesOf, BodyNumber, BodiesNumber, BookNumber}
 use Rattle.bits.proofs.Laws.Bit.{same-or}
 use Rattle.book_bodies.specs.declared.Body.{Body}
-use Rattle.book_bodies.specs.Number.{circuitBodyNumber, TableNumber}
-use Rattle.book_bodies.specs.Answer.{saidNumber, CircuitAnswer, TableAnswer, BodyAnswer}
+use Rattle.book_bodies.specs.Number.{circuitBodyNumber, recordBodyNumber, TableNumber}
+use Rattle.book_bodies.specs.Answer.{saidNumber, CircuitAnswer, RecordAnswer, TableAnswer, BodyAnswer}
 use Rattle.theorem_whole.specs.Text.{TableRefusal, BodyRefusal, FirstRefusal, BookRefusal}
 use Rattle.theorem_whole.proofs.Laws.Normal.{to-bytes, from-bytes}
 
@@ -32,7 +32,7 @@ table-to n bs k N = record {
 }
 
 pub body-to : (bs : List ℕ) (j k : ℕ) → BodyNumber bs j k → BodyRefusal bs j k
-body-to bs j k N = record { circuit = N .circuit; table = λ e. table-to (widthOf bs j) (bytesOf bs j) k (N .table e) }
+body-to bs j k N = record { circuit = N .circuit; table = λ e. table-to (widthOf bs j) (bytesOf bs j) k (N .table e); recorded = N .recorded }
 
 pub book-to : (bs : List ℕ) (k : ℕ) → BookNumber bs k → BookRefusal bs k
 book-to bs k N = record { contents = N .contents; bodies = λ z. go (N .bodies z) }
@@ -51,7 +51,7 @@ table-from n bs k N = record {
 }
 
 pub body-from : (bs : List ℕ) (j k : ℕ) → BodyRefusal bs j k → BodyNumber bs j k
-body-from bs j k N = record { circuit = N .circuit; table = λ e. table-from (widthOf bs j) (bytesOf bs j) k (N .table e) }
+body-from bs j k N = record { circuit = N .circuit; table = λ e. table-from (widthOf bs j) (bytesOf bs j) k (N .table e); recorded = N .recorded }
 
 pub book-from : (bs : List ℕ) (k : ℕ) → BookRefusal bs k → BookNumber bs k
 book-from bs k N = record { contents = N .contents; bodies = λ z. go (N .bodies z) }
@@ -68,6 +68,9 @@ module _ (n : ℕ) (bs : List ℕ) (r : Body) where
   circuit-said : (ed : ℕ) → CircuitAnswer ed n bs r → saidNumber (r .said) ≡ circuitBodyNumber ed n bs
   circuit-said ed A = ⊎-elim (λ z. of _ (A .given z) ∙ sym z) (λ ne. of _ (A .refused ne)) (same-or (circuitBodyNumber ed n bs) accepted)
 
+  record-said : RecordAnswer n bs r → saidNumber (r .said) ≡ recordBodyNumber n bs
+  record-said A = ⊎-elim (λ z. of _ (A .given z) ∙ sym z) (λ ne. of _ (A .refused ne)) (same-or (recordBodyNumber n bs) accepted)
+
   table-said : TableAnswer n bs r → TableNumber n bs (saidNumber (r .said))
   table-said A = record { fault = λ f. of _ (A .fault f); broken = λ f b. of _ (A .broken f b); sound = λ f b. of _ (A .sound f b); normal = A .normal }
 
@@ -75,4 +78,5 @@ pub body-said : (bs : List ℕ) (j : ℕ) (r : Body) → BodyAnswer (editionOf b
 body-said bs j r A = record {
   circuit = λ k. circuit-said (widthOf bs j) (bytesOf bs j) r (editionOf bs) (A .circuit k);
   table = λ k. table-said (widthOf bs j) (bytesOf bs j) r (A .table k);
+  recorded = λ k. record-said (widthOf bs j) (bytesOf bs j) r (A .recorded k);
 }

@@ -7,6 +7,7 @@ use native.Mathlib.Omega.{arith}
 use lib.ListN.{length, take}
 use Rattle.exact.specs.Refusal.{accepted}
 use Rattle.exact.proofs.Laws.Bias.{is-only}
+use Rattle.exact.proofs.Laws.Chance.{one-chance-of}
 use Rattle.bits.proofs.Laws.Bit.{same-or}
 use Rattle.contents.specs.Contents.{editionOf, countOf, kindOf, widthOf, entryOf, contentsNumber}
 use Rattle.contents.proofs.Laws.Good.{good}
@@ -14,24 +15,25 @@ use Rattle.book_bodies.specs.declared.Body.{Body}
 use Rattle.state.specs.declared.State.{State}
 use Rattle.book.specs.Book.{bytesOf}
 use Rattle.book_bodies.specs.declared.Said.{Said}
-use Rattle.book_bodies.specs.declared.Said.the-variants.{Refused, Circuit, Whole}
+use Rattle.book_bodies.specs.declared.Said.the-variants.{Refused, Circuit, Record, Whole}
 use Rattle.book_bodies.specs.Number.{TableNumber}
 use Rattle.book_bodies.specs.Answer.{saidNumber, BodyAnswer}
 use Rattle.book.proofs.Laws.Only.{body-number, one-number}
-use Rattle.lines.specs.Lines.{bookLine, circuitLine, refusedLine, refusedBodyLine}
+use Rattle.lines.specs.Lines.{bookLine, circuitLine, recordLine, refusedLine, refusedBodyLine}
 use Rattle.listing_line.specs.Line.{bodyLine}
 use Rattle.listing.specs.Listing.{bodyLines, Listing, StrictListing, Listed, ListedStrict}
-use Rattle.theorem_whole.specs.Text.{CircuitLine, LineOf, linesOf, Text, StrictText}
+use Rattle.theorem_whole.specs.Text.{CircuitLine, RecordLine, LineOf, linesOf, Text, StrictText}
 use Rattle.lines_words.specs.Overlay.{top}
 use Rattle.listing.proofs.Laws.Fits.{listed-front}
 use Rattle.theorem_whole.proofs.Laws.Refusal.{body-to, body-from, book-to, book-from, body-said}
-use Rattle.theorem_whole.proofs.Laws.Lines.{circuit-line, circuit-passed, table-line}
+use Rattle.theorem_whole.proofs.Laws.Lines.{circuit-line, circuit-passed, record-line, record-passed, table-line}
 
 -- ---- a line
 refused-line : (j : ℕ) (s : Said) (t : State) → saidNumber s ≢ accepted → bodyLine j s t ≡ refusedBodyLine j (saidNumber s)
 unfolding bodyLine
 refused-line j (Refused k) t ne = refl
 refused-line j (Circuit a) t ne = absurd (ne refl)
+refused-line j (Record c) t ne = absurd (ne refl)
 refused-line j Whole t ne = absurd (ne refl)
 
 line-of : (bs : List ℕ) (j : ℕ) (r : Body) → BodyAnswer (editionOf bs) (kindOf bs j) (widthOf bs j) (bytesOf bs j) r → LineOf bs j (bodyLine j (r .said) (r .table))
@@ -44,6 +46,9 @@ line-of bs j r A =
           let c = sym (N .circuit k) ∙ z in
           circuit-line (editionOf bs) (widthOf bs j) j (bytesOf bs j) r c (circuit-passed (editionOf bs) (widthOf bs j) (bytesOf bs j) c) (A .circuit k);
       table = λ z k. table-line (widthOf bs j) j (bytesOf bs j) r (subst (TableNumber (widthOf bs j) (bytesOf bs j)) z (N .table k)) (A .table k);
+      recorded = λ z k.
+          let c = sym (N .recorded k) ∙ z in
+          record-line (widthOf bs j) j (bytesOf bs j) r c (record-passed (widthOf bs j) (bytesOf bs j) c) (A .recorded k);
     }
 
 -- ---- a book
@@ -83,6 +88,9 @@ one-circuit : (ed n : ℕ) (bs : List ℕ) (j : ℕ) (l m : List ℕ) → Circui
 one-circuit ed n bs j l m A B =
     A .text ∙ ap (circuitLine j) (is-only (A .amount) (B .amount) _ _ (A .small) (B .small) (A .value) (B .value)) ∙ sym (B .text)
 
+one-record : (n : ℕ) (bs : List ℕ) (j : ℕ) (l m : List ℕ) → RecordLine n bs j l → RecordLine n bs j m → l ≡ m
+one-record n bs j l m A B = A .text ∙ ap (recordLine j) (one-chance-of (A .chance) (B .chance) _ _ (A .value) (B .value)) ∙ sym (B .text)
+
 one-line : (bs : List ℕ) → contentsNumber bs ≡ accepted → (j : ℕ) → j < countOf bs → (l m : List ℕ) → LineOf bs j l → LineOf bs j m → l ≡ m
 one-line bs z j h l m A B = ⊎-elim fine (λ ne. A .refused ne ∙ ap (refusedBodyLine j) same ∙ sym (B .refused (λ y. ne (same ∙ y)))) (same-or (A .number) accepted)
   where
@@ -92,7 +100,8 @@ one-line bs z j h l m A B = ⊎-elim fine (λ ne. A .refused ne ∙ ap (refusedB
     fine : A .number ≡ accepted → l ≡ m
     fine y =
         ⊎-elim (λ k. one-circuit (editionOf bs) (widthOf bs j) (bytesOf bs j) j l m (A .circuit y k) (B .circuit (sym same ∙ y) k))
-        (λ k. A .table y k ∙ sym (B .table (sym same ∙ y) k)) (good bs z .body j h (entryOf bs j) refl .kind)
+        (λ o. ⊎-elim (λ k. A .table y k ∙ sym (B .table (sym same ∙ y) k))
+        (λ k. one-record (widthOf bs j) (bytesOf bs j) j l m (A .recorded y (k .1)) (B .recorded (sym same ∙ y) (k .1))) o) (good bs z .body j h (entryOf bs j) refl .kind)
 
 lines-same : (n : ℕ) (f g : ℕ → List ℕ) → ((j : ℕ) → j < n → f j ≡ g j) → linesOf n f ≡ linesOf n g
 unfolding linesOf

@@ -15,14 +15,21 @@ use Rattle.body_write.proofs.Laws.Only.{one-written}
 use Rattle.circuit.proofs.Laws.Only.{one-amplitude}
 use Rattle.book_bodies.specs.declared.Body.{Body}
 use Rattle.book.proofs.Laws.Only.{one-body, one-strict}
-use Rattle.told.specs.Told.{Told, AnswerTold, Shown, BodyTold}
-use Rattle.told.proofs.Laws.Only.{one-telling, one-body-told}
-use Rattle.topazfern.specs.Calls.{AmplitudeTold, EntryTold, WriteTold, ReadTold, StrictReadTold}
+use Rattle.exact.specs.declared.Told.{Told as ChanceAnswer}
+use Rattle.record.proofs.Laws.Only.{one-chance}
+use Rattle.told.specs.Told.{Told, AnswerTold, Odds, ChanceTold, Shown, BodyTold}
+use Rattle.told.proofs.Laws.Only.{one-telling, one-chance-told, one-body-told}
+use Rattle.topazfern.specs.Calls.{AmplitudeTold, RecordTold, EntryTold, WriteTold, ReadTold, StrictReadTold}
 
 pub one-amplitude-told : (ed width input output : ℕ) (bs : List ℕ) (t u v : Told) (n m : ℕ) → AmplitudeTold ed width input output bs t n u → AmplitudeTold ed width input output bs t m v → (n ≡ m) × (u ≡ v)
 one-amplitude-told ed width input output bs t u v n m A B =
     let e = one-amplitude ed width input output bs (A .answer) (B .answer) (A .is) (B .is) in
     one-telling (B .answer) t u v n m (subst (λ (a : Answer). AnswerTold a t n u) e (A .tells)) (B .tells)
+
+pub one-record-told : (width input : ℕ) (bs : List ℕ) (t u v : Odds) (n m : ℕ) → RecordTold width input bs t n u → RecordTold width input bs t m v → (n ≡ m) × (u ≡ v)
+one-record-told width input bs t u v n m A B =
+    let e = one-chance width input bs (A .answer) (B .answer) (A .is) (B .is) in
+    one-chance-told (B .answer) t u v n m (subst (λ (a : ChanceAnswer). ChanceTold a t n u) e (A .tells)) (B .tells)
 
 pub one-entry-told : (width : ℕ) (bs : List ℕ) (x : ℕ) (t u v : Told) (n m : ℕ) → EntryTold width bs x t n u → EntryTold width bs x t m v → (n ≡ m) × (u ≡ v)
 one-entry-told width bs x t u v n m A B = ⊎-elim given refused (same-or (A .reading .refusal) 0)

@@ -5,10 +5,10 @@ use Rattle.try_compare.proofs.outputs.Statement.{statement}
 use Rattle.try_compare.proofs.outputs.Tie as tie
 
 abbrev Inv-loop : tie.InvT-loop
-Inv-loop edition width input gates product n from strings t₀ q₀ t q = q ≤ strings
+Inv-loop edition width input gates bytes product n from strings t₀ q₀ t q = q ≤ strings
 
 abbrev μ-loop : tie.MeasureT-loop
-μ-loop edition width input gates product n from strings t₀ q₀ t q = strings - q
+μ-loop edition width input gates bytes product n from strings t₀ q₀ t q = strings - q
 
 run-requires : tie.Need-run-requires Inv-loop μ-loop
 run-requires c κs = search needs

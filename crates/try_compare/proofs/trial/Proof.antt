@@ -26,8 +26,8 @@ mul-end c = search needs
 array-share-prefix-gates : tie.Need-array-share-prefix-gates
 array-share-prefix-gates c = search needs
 
-slice-aggregate-outputs : tie.Need-slice-aggregate-outputs
-slice-aggregate-outputs c = sym (length-take-le _ _ (search needs))
+slice-aggregate-part : tie.Need-slice-aggregate-part
+slice-aggregate-part c = sym (length-take-le _ _ (search needs))
 
 outputs-requires : tie.Need-outputs-requires
 outputs-requires c κs = search needs
@@ -46,6 +46,6 @@ trial-spec =
     length-requires
     mul-end
     array-share-prefix-gates
-    slice-aggregate-outputs
+    slice-aggregate-part
     outputs-requires
     returns)
