@@ -44,7 +44,8 @@ enum {
 /* The amplitude of a circuit: three bytes for each gate, bit i of a string is wire i. In edition 1 code 7 is H S H, in edition 2 the
  * rotation with rows (1, -i) and (-i, 1) over the square root of two. In edition 2 the bytes 64, n, 0 open a block that is run n
  * times (1..255), and 65, 0, 0 close it; blocks hold gates and blocks. Nothing is written out: 65,536 gates need no more memory than
- * one. Refuses 9, 11, 6, 8, then item by item 7, 6, 3 or 2, then 16. */
+ * one. In edition 2 the codes 32 to 55 are the one-wire elements 0 to 23 (docs/cliffords.md) as their words, phase included, each
+ * one gate. Refuses 9, 11, 6, 8, then item by item 7, 6, 3 or 2, then 16. */
 uint8_t topazfern_amplitude(uint8_t edition, uint8_t width, uint32_t input, uint32_t output, const uint8_t *gates,
                             size_t gates_length, uint8_t *zero, int32_t *power, uint8_t *phase);
 
