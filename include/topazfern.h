@@ -25,13 +25,14 @@ enum {
     TOPAZFERN_ACCEPTED = 0,
     TOPAZFERN_NOT_LIVE = 1,      /* an assignment has a bit that is not live */
     TOPAZFERN_TWICE = 2,         /* a gate names the same wire twice; no call on a table has it */
-    TOPAZFERN_RANGE = 3,         /* second byte of a one-wire gate not 0; a block's count of 0, or a stray byte of its marks */
+    TOPAZFERN_RANGE = 3,         /* second byte of a one-wire gate not 0; a block's count of 0, or a stray byte of its marks; an outcome
+                                    that is neither 0 nor 1; number of a one-wire element above 23 */
     TOPAZFERN_WIDTH = 6,         /* width of a circuit not 1..31, or a wire not below it */
     TOPAZFERN_CODE = 7,          /* unknown gate code */
     TOPAZFERN_STRING = 8,        /* a string has a bit at or above the width */
     TOPAZFERN_HEADER = 9,        /* a book's length, letters, edition or count; an edition other than 1 or 2; a list to lay of more than 16 */
     TOPAZFERN_CONTENTS = 10,     /* a book's contents; lists to lay unequal, bad kind, or total above 60,000 */
-    TOPAZFERN_BODY = 11,         /* body length wrong, more than 4,096 gates and marks, or a field out of range */
+    TOPAZFERN_BODY = 11,         /* body length wrong, more than 4,096 gates and marks, or elements to close, or a field out of range */
     TOPAZFERN_NOT_NORMAL = 12,   /* a table that is not normal */
     TOPAZFERN_ROOM = 13,         /* the area is too short for what is to be written, or the start is beyond its end */
     TOPAZFERN_NO_BODY = 14,      /* no body of that number */
@@ -44,9 +45,15 @@ enum {
 /* The amplitude of a circuit: three bytes for each gate, bit i of a string is wire i. In edition 1 code 7 is H S H, in edition 2 the
  * rotation with rows (1, -i) and (-i, 1) over the square root of two. In edition 2 the bytes 64, n, 0 open a block that is run n
  * times (1..255), and 65, 0, 0 close it; blocks hold gates and blocks. Nothing is written out: 65,536 gates need no more memory than
- * one. Refuses 9, 11, 6, 8, then item by item 7, 6, 3 or 2, then 16. */
+ * one. In edition 2 the codes 32 to 55 are the one-wire elements 0 to 23 (docs/cliffords.md) as their words, phase included, each
+ * one gate. Refuses 9, 11, 6, 8, then item by item 7, 6, 3 or 2, then 16. */
 uint8_t topazfern_amplitude(uint8_t edition, uint8_t width, uint32_t input, uint32_t output, const uint8_t *gates,
                             size_t gates_length, uint8_t *zero, int32_t *power, uint8_t *phase);
+
+/* The chance of a whole record, which is of edition 2: gates as in a circuit, and code 80 for a wire measured, its outcome (0 or 1)
+ * in the second byte. *never is 1 where the record cannot occur; else the chance is one over two to *power. Refuses 11, 6, 8, then
+ * gate by gate 7, 6, 3 or 2, then 16. */
+uint8_t topazfern_chance(uint8_t width, uint32_t input, const uint8_t *gates, size_t gates_length, uint8_t *never, uint32_t *power);
 
 /* The listing of a book at the front of text: a line for each body, also for one that is refused; a fault of header or contents is the
  * single line of its number. Answers its length, at most 312; bytes beyond text_length are dropped. */
@@ -55,7 +62,8 @@ size_t topazfern_listing(const uint8_t *book, size_t book_length, uint8_t *text,
 /* The same, all or nothing: where any body is refused, the single line of the first one's number. */
 size_t topazfern_listing_strict(const uint8_t *book, size_t book_length, uint8_t *text, size_t text_length);
 
-/* Body j of a book: *kind is 1 for a circuit, whose amplitude is the amount (*live and *ties are 0), or 2 for a table, with its
+/* Body j of a book: *kind is 1 for a circuit, whose amplitude is the amount (*live and *ties are 0), 3 for a record, whose chance is
+ * the amount (zero, or power -2e and phase 0 for one over two to e), or 2 for a table, with its
  * live bits, its ties, and its power and phase as the amount. Refuses 9, 10, then 14, then as the body is refused, whatever the
  * other bodies are. */
 uint8_t topazfern_read(const uint8_t *book, size_t book_length, size_t j, uint8_t *kind, size_t *live, size_t *ties,
@@ -77,6 +85,15 @@ uint8_t topazfern_lay(uint8_t *area, size_t area_length, uint8_t edition, const 
 /* A table body of this width, tested, written into area from start on: the same bytes. Refuses 11, 12, 13. */
 uint8_t topazfern_write(const uint8_t *body, size_t body_length, uint8_t width, uint8_t *area, size_t area_length,
                         size_t start, size_t *bytes);
+
+/* The 24 one-wire Cliffords by their numbers (docs/cliffords.md), modulo global phase. *element is the answer, 0..23.
+ * The product: i, then j. The inverse: what undoes i. Both refuse 3 for a number above 23. */
+uint8_t topazfern_product(uint8_t i, uint8_t j, uint8_t *element);
+uint8_t topazfern_inverse(uint8_t i, uint8_t *element);
+
+/* The element that undoes up to 4,096 elements, applied in order: the closing gate of a one-wire run; of none it is 0.
+ * Refuses 3 for a number above 23 anywhere, then 11 for more than 4,096. */
+uint8_t topazfern_closing(const uint8_t *numbers, size_t numbers_length, uint8_t *element);
 
 #ifdef __cplusplus
 }

@@ -1,4 +1,4 @@
-/* Topazfern from C: an amplitude, a listing, and a book that is put together and read back. */
+/* Topazfern from C: an amplitude, a listing, a book that is put together and read back, and the closing gate of a one-wire run. */
 #include <stdio.h>
 #include <string.h>
 
@@ -85,6 +85,21 @@ static size_t build(uint8_t *book, size_t room)
     return at + bytes;
 }
 
+/* H, then S, then H (6), and what undoes that; 24 is no element. */
+static void elements(void)
+{
+    const uint8_t run[] = {1, 2, 1, 24};
+    uint8_t element;
+
+    if (!topazfern_product(1, 2, &element))
+        printf("H, then S: element %d\n", element);
+    if (!topazfern_inverse(2, &element))
+        printf("S is undone by element %d\n", element);
+    if (!topazfern_closing(run, 3, &element))
+        printf("H, S, H is closed by element %d\n", element);
+    printf("a run with 24 in it: refused %d\n", topazfern_closing(run, 4, &element));
+}
+
 int main(void)
 {
     uint8_t book[100], text[TOPAZFERN_LISTING_MAX], kind, zero, phase, refused;
@@ -103,5 +118,6 @@ int main(void)
         else
             printf("body %zu: kind %d, live %zu, ties %zu, zero %d, power %d, phase %d\n", j, kind, live, ties, zero, power, phase);
     }
+    elements();
     return 0;
 }

@@ -145,6 +145,27 @@ BLOCKS = [
     (second(1, NO_STRINGS + "40FF00 050000 40FE00 050000 410000 410000" + "40FF00 050000 410000" * 2 + "050000" * 2), "book 1/0 refused 16"),
 ]
 
+# elements by their words: HSH, HSSH, HSSHSS, nothing; order 7, 6, 3; one gate each in a block
+WORDS = [
+    (second(1, NO_STRINGS + "260000"), "book 1/0 C -1 1"),
+    (second(1, "00000000 01000000 2C0000"), "book 1/0 C 0 0"),
+    (second(1, "00000000 01000000 370000"), "book 1/0 C 0 4"),
+    (second(1, NO_STRINGS + "200000"), "book 1/0 C 0 0"),
+    (second(1, "00000000 01000000 200000"), "book 1/0 C zero"),
+    (second(1, "01000000 01000000 220000"), "book 1/0 C 0 2"),  # S
+    (second(1, "01000000 01000000 210000"), "book 1/0 C -1 4"),  # H
+    (second(2, "00000000 02000000 2C0100"), "book 1/0 C 0 0"),  # HSSH on wire 1
+    (second(1, NO_STRINGS + "1F0000"), "book 1/0 refused 7"),
+    (second(1, NO_STRINGS + "380000"), "book 1/0 refused 7"),
+    (second(1, NO_STRINGS + "200100"), "book 1/0 refused 6"),
+    (second(1, NO_STRINGS + "370101"), "book 1/0 refused 6"),  # 6 before 3
+    (second(1, NO_STRINGS + "200001"), "book 1/0 refused 3"),
+    (circuit(1, NO_STRINGS + "200000"), "book 1/0 refused 7"),  # edition 1
+    (circuit(1, NO_STRINGS + "370101"), "book 1/0 refused 7"),
+    (second(1, NO_STRINGS + "400300 200000 410000"), "book 1/0 C 0 0"),  # a block with code 32 is not empty
+    (second(1, NO_STRINGS + "400200 210000 410000"), "book 1/0 C 0 0"),
+]
+
 TABLES = [
     (table(0, "01 00 0000 00"), "book 1/0 T 0 zero"),
     (table(0, "00 07 D007 00"), "book 1/0 T 0 0 2000 7"),
@@ -189,5 +210,5 @@ TABLES = [
 def cases():
     """(book, listing); the listings above have / for a newline and leave out the last one."""
     yield PAPER, "book 2\n0 C -1 0\n1 C -1 1\n"
-    for text, said in FRAMES + CIRCUITS + NIGHT + EDITIONS + BLOCKS + TABLES:
+    for text, said in FRAMES + CIRCUITS + NIGHT + EDITIONS + BLOCKS + WORDS + TABLES:
         yield bytes.fromhex(text), said.replace("/", "\n") + "\n"

@@ -8,6 +8,7 @@ import order
 import some_blocks
 import some_circuits
 import some_tables
+import some_words
 from book import lay
 
 PAPER = bytes.fromhex(
@@ -147,7 +148,7 @@ def nonsense(rng):
 SOUND = [*map(in_both, [paper, narrow, wide, undone, long, mixed]), tables]
 BAD = [*map(in_both, [codes, bad_gates, bad_circuit_bodies, bad_table_bodies]), frames]
 NOISE = [flips, flips_in_frame, cuts, nonsense]
-ALL = SOUND + [*map(in_both, edges.CIRCUITS)] + edges.FRAMES_AND_TABLES + BAD + [*map(in_both, order.FAMILIES)] + some_blocks.FAMILIES + NOISE
+ALL = SOUND + [*map(in_both, edges.CIRCUITS)] + edges.FRAMES_AND_TABLES + BAD + [*map(in_both, order.FAMILIES)] + some_blocks.FAMILIES + [*map(in_both, some_words.FAMILIES)] + NOISE
 
 
 def one_more(rng):
@@ -157,6 +158,7 @@ def one_more(rng):
         lambda: ("sound among sound", order.among(rng, [sound_part(rng)])),
         lambda: ("bytes changed", with_bytes_changed(rng, order.among(rng, [sound_part(rng)]), 3)),
         lambda: ("nested blocks", some_blocks.among(rng, [some_blocks.part(rng, 3, some_blocks.nested(rng, 3, 8, 300))])),
+        lambda: ("elements", some_blocks.book([some_circuits.part(rng, 5, some_words.items(rng, 5, 40))])),
         lambda: ("a bad block", some_blocks.among(rng, [some_blocks.refused(rng)])),
         lambda: ("a bad body", order.among(rng, [order.bad_part(rng, rng.choice(order.OF_BODIES))])),
     ])()

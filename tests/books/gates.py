@@ -4,13 +4,14 @@
 """
 
 import blocks
+import words
 
 H, S, S_DAGGER, Z, X, Y, SX = range(1, 8)
 CZ, CX, SWAP = range(16, 19)
 ONE_WIRE = range(1, 8)
 TWO_WIRES = range(16, 19)
 KNOWN = [*ONE_WIRE, *TWO_WIRES]
-UNKNOWN = [code for code in range(256) if code not in (*KNOWN, *blocks.MARKS)]  # in both editions
+UNKNOWN = [code for code in range(256) if code not in (*KNOWN, *words.CODES, *blocks.MARKS)]  # in both editions
 MOST_GATES = 4096
 EDITIONS = (1, 2)
 ROTATION = 0x107  # what code 7 means in edition 2; no byte has this number
@@ -26,8 +27,8 @@ def strings(body):
 
 
 def unknown(edition):
-    """"Edition 1 still refuses 64 and 65 as unknown." """
-    return UNKNOWN if edition == 2 else [*UNKNOWN, *blocks.MARKS]
+    """"Edition 1 still refuses 64 and 65 as unknown.", and the elements are edition 2's """
+    return UNKNOWN if edition == 2 else [*UNKNOWN, *words.CODES, *blocks.MARKS]
 
 
 def written(body):
@@ -80,7 +81,7 @@ def gate_faults(edition, width, gate):
         yield 6, "wire"
     if code in TWO_WIRES and second >= width:
         yield 6, "second wire"
-    if code in ONE_WIRE and second != 0:
+    if (code in ONE_WIRE or edition == 2 and code in words.CODES) and second != 0:
         yield 3, "second byte"
     if code in TWO_WIRES and second == wire:
         yield 2, "wire twice"

@@ -9,6 +9,7 @@ import book as books
 import gates as g
 import order
 import tables
+import words
 
 # the numbers that a book can be refused by; 1, 4, 5, 13 and 14 need other calls
 REACHED_BY_BOOKS = (2, 3, 6, 7, 8, 9, 10, 11, 12, 16)
@@ -157,7 +158,7 @@ def answered_edges():
     yield from ("60000 bytes", "59999 bytes", "0 gates", "4095 gates", "4096 gates")
     yield from (f"circuit width {width}" for width in range(1, 32))
     yield from (f"code {code}, edition {edition}" for edition in g.EDITIONS for code in g.KNOWN)
-    yield from (f"code {code}, edition 2" for code in blocks.MARKS)
+    yield from (f"code {code}, edition 2" for code in (*words.CODES, *blocks.MARKS))
     yield from (f"block {times} times" for times in (1, 2, 255))
     yield from (f"blocks {deep} deep" for deep in range(1, 9))
     yield from ("65536 gates written out", "65535 gates written out", "4096 items with marks")

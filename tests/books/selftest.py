@@ -14,6 +14,7 @@ import some_circuits
 import some_tables
 import tables
 import vector
+import words
 
 
 def demand(holds, *what):
@@ -98,6 +99,23 @@ def rotation(rng):
     return tried
 
 
+def elements(rng):
+    """An element is its word, by its matrix and by its letters; a run and what closes it leave the string."""
+    for code in words.CODES:
+        letters = [({"H": g.H, "S": g.S}[letter], 0, 0) for letter in words.WORDS[code - words.FIRST]]
+        for given in (0, 1):
+            (short, over), (long, below) = vector.run(given, [(code, 0, 0)]), vector.run(given, letters)
+            for wanted in (0, 1):
+                ends = [exact.amount(short.get(wanted, exact.ZERO), over), exact.amount(long.get(wanted, exact.ZERO), below)]
+                demand(ends[0] == ends[1] == chform.after(1, given, [(code, 0, 0)]).amplitude(wanted), code, given, wanted, ends)
+    for _ in range(100):
+        numbers = [rng.randrange(24) for _ in range(rng.randint(0, 30))]
+        run = [(words.FIRST + k, 0, 0) for k in [*numbers, words.closing(numbers)]]
+        for given in (0, 1):
+            demand(chform.after(1, given, run).amplitude(given)[0] == 0, run)
+    return 24 * 4 + 200
+
+
 def expansions(rng):
     """The stack against a rewriting of text: the innermost block is written out until none is left."""
     def text(items):
@@ -169,7 +187,7 @@ def normal_tables(rng):
     return 300
 
 
-TESTS = [values, narrow_circuits, wide_circuits, root_of_x, rotation, expansions, hand_made_books, normal_forms, normal_tables]
+TESTS = [values, narrow_circuits, wide_circuits, root_of_x, rotation, elements, expansions, hand_made_books, normal_forms, normal_tables]
 
 
 def run(seed):

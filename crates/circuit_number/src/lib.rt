@@ -24,7 +24,7 @@ fn item_at(dialect: u8, gates: &[u8], j: usize, width: u8) -> Reading
     )
 }
 
-// The number of a reading, 0 where it is a gate or a mark.
+// The number of a reading, 0 where it is a gate, a mark or an element.
 fn number_of(g: Reading) -> u8
     ensures { λ r. ⌜ r ≡ numberOf g ⌝ }
 {
@@ -33,6 +33,7 @@ fn number_of(g: Reading) -> u8
         Reading::Is(_) => 0,
         Reading::Opens(_) => 0,
         Reading::Closes => 0,
+        Reading::Word(_, _) => 0,
     }
 }
 

@@ -1,4 +1,6 @@
 // The calls for bench software in C: over numbers and byte slices alone. Each takes any bytes and any numbers; where it answers a number of refusal, nothing that was lent has changed, but that a writer answers 0 bytes.
+ghost use Rattle.cliffords.specs.Closing.{productNumber, inverseNumber, closingNumber, IsProduct, Undoes, Closes};
+ghost use Rattle.told_cliffords.specs.Told.{ElementTold};
 ghost use Rattle.contents_lay.specs.Lay.{ContentsLaid};
 ghost use Rattle.listing.specs.Listing.{Listed, ListedStrict};
 ghost use Rattle.told.specs.Told.{behind, odds, six};
@@ -151,4 +153,28 @@ pub extern "C" fn topazfern_write(
     let n = w.bytes;
     *bytes = n;
     w.refusal
+}
+
+// The product of two one-wire elements: i, then j.
+#[no_mangle]
+pub extern "C" fn topazfern_product(i: u8, j: u8, element: &mut u8) -> u8
+    ensures { λ n. ⌜ ElementTold (productNumber i j) (IsProduct i j) (now (element .entry)) n (now (element .exit)) ⌝ }
+{
+    told_cliffords::product(i, j, element)
+}
+
+// The one-wire element that undoes element i.
+#[no_mangle]
+pub extern "C" fn topazfern_inverse(i: u8, element: &mut u8) -> u8
+    ensures { λ n. ⌜ ElementTold (inverseNumber i) (Undoes i) (now (element .entry)) n (now (element .exit)) ⌝ }
+{
+    told_cliffords::inverse(i, element)
+}
+
+// The one-wire element that undoes a run of elements, applied in order.
+#[no_mangle]
+pub extern "C" fn topazfern_closing(numbers: &[u8], element: &mut u8) -> u8
+    ensures { λ n. ⌜ ElementTold (closingNumber (now (numbers .entry))) (Closes (now (numbers .entry))) (now (element .entry)) n (now (element .exit)) ⌝ }
+{
+    told_cliffords::closing(numbers, element)
 }

@@ -1,4 +1,4 @@
-// The cases of document 01 that are worked by hand, run by the code: a line for each, in that paper's order, with those of both editions and of repeated blocks, then the spreads of request A1, the cases of request A6 and the turns of request A2. The expected lines are worked by hand.
+// The cases of document 01 that are worked by hand, run by the code: a line for each, in that paper's order, with those of both editions, of repeated blocks and of elements by their words, then the spreads of request A1, the cases of request A6 and the turns of request A2. The expected lines are worked by hand.
 use call_answers::Counted;
 use doubles::Doubles;
 use exact::Amount;
@@ -282,6 +282,49 @@ fn bad_blocks() {
     );
 }
 
+// Elements by their words: HSH, HSSH, HSSHSS, and nothing.
+fn elements() {
+    show(
+        b"code 38: 0 to 0",
+        circuit::amplitude(2, 1, 0, 0, b"\x26\x00\x00"),
+    );
+    show(
+        b"code 44: 0 to 1",
+        circuit::amplitude(2, 1, 0, 1, b"\x2C\x00\x00"),
+    );
+    show(
+        b"code 55: 0 to 1",
+        circuit::amplitude(2, 1, 0, 1, b"\x37\x00\x00"),
+    );
+    show(
+        b"code 32: 0 to 0",
+        circuit::amplitude(2, 1, 0, 0, b"\x20\x00\x00"),
+    );
+    let idle = b"\x40\x03\x00\x20\x00\x00\x41\x00\x00";
+    show(
+        b"three times code 32: 0 to 0",
+        circuit::amplitude(2, 1, 0, 0, idle),
+    );
+    let run = b"\x21\x00\x00\x22\x00\x00\x2B\x00\x00";
+    show(
+        b"codes 33 and 34, closed by 43: 0 to 0",
+        circuit::amplitude(2, 1, 0, 0, run),
+    );
+    show(
+        b"code 32 on no wire, with a second byte",
+        circuit::amplitude(2, 1, 0, 0, b"\x20\x01\x01"),
+    );
+    show(
+        b"code 32 with a second byte",
+        circuit::amplitude(2, 1, 0, 0, b"\x20\x00\x01"),
+    );
+    show(
+        b"code 32 in edition 1",
+        circuit::amplitude(1, 1, 0, 0, b"\x20\x00\x00"),
+    );
+    show(b"code 56", circuit::amplitude(2, 1, 0, 0, b"\x38\x00\x00"));
+}
+
 // A circuit for each number that refuses one.
 fn refusals() {
     show(
@@ -431,6 +474,7 @@ fn main() {
     editions();
     blocks();
     bad_blocks();
+    elements();
     pair();
     show(b"one bit, quarter 0, sum", one_bit(0, 0));
     show(b"one bit, quarter 1, sum", one_bit(0, 1));
