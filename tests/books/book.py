@@ -7,11 +7,12 @@ from typing import NamedTuple
 
 import circuit
 import gates
+import records
 import tables
 
 MOST_BYTES = 60_000
 MOST_BODIES = 16
-CIRCUIT, TABLE = 1, 2
+CIRCUIT, TABLE, RECORD = 1, 2, 3
 
 
 class Entry(NamedTuple):
@@ -62,7 +63,7 @@ def contents_faults(book):
         yield 0, "contents too short"
         return
     for at, entry in enumerate(entries(book)):
-        if entry.kind not in (CIRCUIT, TABLE):
+        if entry.kind not in (CIRCUIT, TABLE) and (entry.kind, book[2]) != (RECORD, 2):
             yield at, "kind"
         if entry.start < end:
             yield at, "start too early"
@@ -89,6 +90,9 @@ def body_faults(edition, at, entry, data):
     elif entry.kind == TABLE:
         for number, reason in tables.faults(entry.width, data):
             yield Fault(number, "body", at, -1, reason)
+    elif entry.kind == RECORD:
+        for number, reason, item in records.faults(entry.width, data):
+            yield Fault(number, "body", at, -1 if item is None else item, reason)
 
 
 def faults(book):
@@ -109,6 +113,10 @@ def line(edition, at, entry, data):
     if entry.kind == CIRCUIT:
         amount = circuit.amplitude(entry.width, *gates.strings(data), gates.gates(edition, data))
         return f"{at} C zero" if amount is None else f"{at} C {amount[0]} {amount[1]}"
+    if entry.kind == RECORD:
+        # "`amps` prints number, `R`, that power or `none`"
+        power = records.chance(entry.width, gates.number(data, 0, 4), records.steps(data))
+        return f"{at} R {'none' if power is None else power}"
     table = tables.read(entry.width, data)
     if table.zero:
         return f"{at} T {entry.width} zero"

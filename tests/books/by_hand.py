@@ -166,6 +166,21 @@ WORDS = [
     (second(1, NO_STRINGS + "400200 210000 410000"), "book 1/0 C 0 0"),
 ]
 
+# document 02's records: two wires H and CX, both 1; one of each; no gates; 255 times (H, 0)
+RECORDS = [
+    ("51 4E 02 04 03 02 10 00 24 00 00 00 03 02 10 00 34 00 00 00 03 01 04 00 44 00 00 00 03 01 10 00 48 00 00 00"
+     "00000000 010000 110001 500001 500101 00000000 010000 110001 500001 500100 00000000 00000000 40FF00 010000 500000 410000",
+     "book 4/0 R 1/1 R none/2 R 0/3 R 255"),
+    ("51 4E 02 01 03 01 07 00 0C 00 00 00 00000000 500001", "book 1/0 R none"),  # 1 without H
+    ("51 4E 02 01 03 01 07 00 0C 00 00 00 01000000 500001", "book 1/0 R 0"),
+    ("51 4E 02 01 03 01 0D 00 0C 00 00 00 00000000 010000 500000 500000", "book 1/0 R 1"),  # measured twice alike
+    ("51 4E 02 01 03 02 10 00 0C 00 00 00 00000000 010000 010100 500000 500101", "book 1/0 R 2"),
+    ("51 4E 02 01 03 01 07 00 0C 00 00 00 00000000 500002", "book 1/0 refused 3"),
+    ("51 4E 02 01 03 01 07 00 0C 00 00 00 00000000 500102", "book 1/0 refused 6"),  # 6 before 3
+    ("51 4E 02 01 03 01 03 00 0C 00 00 00 000000", "book 1/0 refused 11"),
+    ("51 4E 01 01 03 01 04 00 0C 00 00 00 00000000", "refused 10"),  # edition 1
+]
+
 TABLES = [
     (table(0, "01 00 0000 00"), "book 1/0 T 0 zero"),
     (table(0, "00 07 D007 00"), "book 1/0 T 0 0 2000 7"),
@@ -210,5 +225,5 @@ TABLES = [
 def cases():
     """(book, listing); the listings above have / for a newline and leave out the last one."""
     yield PAPER, "book 2\n0 C -1 0\n1 C -1 1\n"
-    for text, said in FRAMES + CIRCUITS + NIGHT + EDITIONS + BLOCKS + WORDS + TABLES:
+    for text, said in FRAMES + CIRCUITS + NIGHT + EDITIONS + RECORDS + BLOCKS + WORDS + TABLES:
         yield bytes.fromhex(text), said.replace("/", "\n") + "\n"

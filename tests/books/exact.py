@@ -25,6 +25,14 @@ def root_two_to(power):
     return (half, 0, 0, 0) if power % 2 == 0 else (0, half, 0, -half)
 
 
+def squared(x):
+    """The squared size: x times its mirror, in which ω is ω⁷ = −ω³."""
+    mirror, product = (x[0], -x[3], -x[2], -x[1]), ZERO
+    for place, c in enumerate(x):
+        product = plus(product, turned(tuple(c * m for m in mirror), place))
+    return product
+
+
 def amount(value, below):
     """value / √2^below as (power, phase); None where it is zero; an error where it is no √2^s · ω^c.
 

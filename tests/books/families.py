@@ -7,6 +7,7 @@ import gates as g
 import order
 import some_blocks
 import some_circuits
+import some_records
 import some_tables
 import some_words
 from book import lay
@@ -148,7 +149,7 @@ def nonsense(rng):
 SOUND = [*map(in_both, [paper, narrow, wide, undone, long, mixed]), tables]
 BAD = [*map(in_both, [codes, bad_gates, bad_circuit_bodies, bad_table_bodies]), frames]
 NOISE = [flips, flips_in_frame, cuts, nonsense]
-ALL = SOUND + [*map(in_both, edges.CIRCUITS)] + edges.FRAMES_AND_TABLES + BAD + [*map(in_both, order.FAMILIES)] + some_blocks.FAMILIES + [*map(in_both, some_words.FAMILIES)] + NOISE
+ALL = SOUND + [*map(in_both, edges.CIRCUITS)] + edges.FRAMES_AND_TABLES + BAD + [*map(in_both, order.FAMILIES)] + some_blocks.FAMILIES + [*map(in_both, some_words.FAMILIES)] + some_records.FAMILIES + NOISE
 
 
 def one_more(rng):

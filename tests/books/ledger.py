@@ -8,6 +8,7 @@ import blocks
 import book as books
 import gates as g
 import order
+import records
 import tables
 import words
 
@@ -36,9 +37,11 @@ class Ledger:
                 self.counts["bodies refused"] += 1
                 self.refusals[int(words[2])] += 1
             else:
-                kind = {"C": "amplitudes", "T": "tables"}[words[1]]
+                kind = {"C": "amplitudes", "T": "tables", "R": "chances"}[words[1]]
                 self.counts["bodies"] += 1
-                self.counts["zero " + kind if words[-1] == "zero" else kind] += 1
+                self.counts["zero " + kind if words[-1] in ("zero", "none") else kind] += 1
+                if words[1] == "R":
+                    self.met[f"chance {words[2]}"] += 1
                 if words[1] == "C" and words[-1] != "zero":
                     self.met[f"amplitude phase {words[3]}"] += 1
                     self.met[f"amplitude power {words[2]}"] += 1
@@ -75,6 +78,9 @@ class Ledger:
                     self.met[f"code {code}, edition {book[2]}"] += 1
                 if any(item[0] in blocks.MARKS for item in circuit):
                     self.note_blocks(circuit)
+            elif entry.kind == books.RECORD:
+                self.met[f"record width {entry.width}"] += 1
+                self.met[f"{len(records.written(data))} items of a record"] += 1
             else:
                 self.note_table(tables.read(entry.width, data))
 
@@ -122,7 +128,7 @@ class Ledger:
                 self.met[f"11 by {len(g.written(data))} gates"] += 1
             elif first.reason == "power":
                 self.met[f"11 by power {tables.read(entry.width, data).power}"] += 1
-            elif first.reason == "unknown code":
+            elif first.reason == "unknown code" and entry.kind == books.CIRCUIT:
                 self.met[f"7 by code {g.written(data)[first.gate][0]}, edition {book[2]}"] += 1
 
     # ---- the close
@@ -132,7 +138,7 @@ class Ledger:
         return numbers + [name for name in demands() if not self.met[name]]
 
     def summary(self):
-        names = ("books", "books answered", "bodies", "bodies refused", "amplitudes", "zero amplitudes", "tables", "zero tables")
+        names = ("books", "books answered", "bodies", "bodies refused", "amplitudes", "zero amplitudes", "tables", "zero tables", "chances", "zero chances")
         yield ", ".join(f"{self.counts[name]} {name}" for name in names)
         yield "refusals: " + ", ".join(f"{count} by {number}" for number, count in sorted(self.refusals.items()))
         yield f"{len(demands())} edges, faults and orders asked for, {sum(1 for name in demands() if self.met[name])} met"
@@ -170,6 +176,12 @@ def answered_edges():
     yield from (f"as many ties as slots, {width}" for width in (1, 2, 63, 64))
 
 
+def record_edges():
+    yield from (f"chance {power}" for power in ("none", 0, 1, 2, 3, 10, 255, 32768))
+    yield from (f"record width {width}" for width in (1, 2, 3, 31))
+    yield from ("0 items of a record", "4096 items of a record")
+
+
 def lines():
     """Answers and refusals side by side: "and the rest goes on" """
     states = ("answered", "refused")
@@ -192,15 +204,15 @@ def lone_faults():
         9: ("shorter than 4", "longer than 60,000", "first letter", "second letter", "edition", "count"),
         10: ("contents too short", "kind", "start too early", "start too late", "end beyond the book",
              "last end before the book's", "no body, but bytes"),
-        11: ("no room for the strings", "gate bytes not in threes", "too many gates", "table width", "length below the fields",
+        11: ("no room for the strings", "gate bytes not in threes", "too many gates", "no room for the string", "record bytes not in threes", "too many items of a record", "table width", "length below the fields",
              "length and ties differ", "zero mark", "phase", "power", "turn", "row bit", "mask bit", "side"),
         12: ("empty tie", "order of leads", "lead in another tie", "turn of a lead", "row of a lead", "sign of a slot with itself",
              "signs not symmetric", "zero with a power", "zero with a phase", "zero with ties", "zero with turns",
              "zero with signs"),
-        6: ("circuit width", "wire", "second wire"),
-        8: ("input", "output"),
+        6: ("circuit width", "wire", "second wire", "record width", "measured wire"),
+        8: ("input", "output", "input of a record"),
         7: ("unknown code",),
-        3: ("second byte", "count of 0", "wire byte of a close", "second byte of a mark"),
+        3: ("second byte", "outcome", "count of 0", "wire byte of a close", "second byte of a mark"),
         16: ("unclosed", "unopened", "empty", "depth", "too long"),
         2: ("wire twice",),
     }
@@ -222,4 +234,4 @@ def orders():
 
 
 def demands():
-    return [*answered_edges(), *lines(), *refused_edges(), *lone_faults(), *orders()]
+    return [*answered_edges(), *record_edges(), *lines(), *refused_edges(), *lone_faults(), *orders()]

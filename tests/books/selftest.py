@@ -9,8 +9,10 @@ import by_hand
 import chform
 import exact
 import gates as g
+import records
 import some_blocks
 import some_circuits
+import some_records
 import some_tables
 import tables
 import vector
@@ -133,6 +135,22 @@ def expansions(rng):
     return 400 + 60 * len(some_blocks.REASONS)
 
 
+def records_add_up(rng):
+    """"the chances of the two outcomes add up to the chance before", after every gate of narrow records, by both methods."""
+    tried = 0
+    for _ in range(60):
+        width = rng.randint(1, 4)
+        given, items = some_records.items(rng, width, rng.randint(0, 20))
+        record = [(g.ROTATION, *item[1:]) if item[0] == g.SX else item for item in items]
+        wire = rng.randrange(width)
+        for end in range(len(record) + 1):
+            powers = [records.chance(width, given, record[:end] + more) for more in ([], [(records.MEASURED, wire, 0)], [(records.MEASURED, wire, 1)])]
+            before, zero, one = (0 if power is None else 2.0 ** -power for power in powers)
+            demand(zero + one == before, width, given, record[:end], wire)
+            tried += 1
+    return tried
+
+
 def hand_made_books(rng):
     tried = 0
     for data, said in by_hand.cases():
@@ -187,7 +205,7 @@ def normal_tables(rng):
     return 300
 
 
-TESTS = [values, narrow_circuits, wide_circuits, root_of_x, rotation, elements, expansions, hand_made_books, normal_forms, normal_tables]
+TESTS = [values, narrow_circuits, wide_circuits, root_of_x, rotation, elements, expansions, records_add_up, hand_made_books, normal_forms, normal_tables]
 
 
 def run(seed):
