@@ -1,4 +1,4 @@
-/* Topazfern for programs in C: exact amplitudes, listings and table bodies, over numbers and bytes.
+/* Topazfern for programs in C: exact amplitudes, chances of records, listings and table bodies, over numbers and bytes.
  *
  * Link with libtopazfern.a (x86-64 Linux): rt staticlib topazfern; cc program.c target/staticlib/libtopazfern.a
  *
@@ -25,7 +25,7 @@ enum {
     TOPAZFERN_ACCEPTED = 0,
     TOPAZFERN_NOT_LIVE = 1,      /* an assignment has a bit that is not live */
     TOPAZFERN_TWICE = 2,         /* the same wire twice */
-    TOPAZFERN_RANGE = 3,         /* second byte of a one-wire gate not 0; a block's count of 0, or a stray byte of its marks */
+    TOPAZFERN_RANGE = 3,         /* second byte of a one-wire gate not 0; an outcome not 0 or 1; a block's count of 0, or a stray byte of its marks */
     TOPAZFERN_WIDTH = 6,         /* width of a circuit not 1..31, or a wire not below it */
     TOPAZFERN_CODE = 7,          /* unknown gate code */
     TOPAZFERN_STRING = 8,        /* a string has a bit at or above the width */
@@ -48,6 +48,12 @@ enum {
 uint8_t topazfern_amplitude(uint8_t edition, uint8_t width, uint32_t input, uint32_t output, const uint8_t *gates,
                             size_t gates_length, uint8_t *zero, int32_t *power, uint8_t *phase);
 
+/* The chance of a whole record, in which the bytes 80, w, b say that wire w was measured as b (0 or 1): the sum of squared sizes of
+ * the entries of its gates and cuts, from the input string. *never is 1 where it is 0 (then *power is 0); else *never is 0 and the
+ * chance is one over two to *power, which is at most 65,536. Gates and blocks are those of edition 2. Refuses 11, 6, 8, then item by
+ * item 7, 6, 3 or 2, then 16. */
+uint8_t topazfern_chance(uint8_t width, uint32_t input, const uint8_t *gates, size_t gates_length, uint8_t *never, uint32_t *power);
+
 /* The listing of a book at the front of text: a line for each body, also for one that is refused; a fault of header or contents is the
  * single line of its number. Answers its length, at most 312; bytes beyond text_length are dropped. */
 size_t topazfern_listing(const uint8_t *book, size_t book_length, uint8_t *text, size_t text_length);
@@ -55,9 +61,10 @@ size_t topazfern_listing(const uint8_t *book, size_t book_length, uint8_t *text,
 /* The same, all or nothing: where any body is refused, the single line of the first one's number. */
 size_t topazfern_listing_strict(const uint8_t *book, size_t book_length, uint8_t *text, size_t text_length);
 
-/* Body j of a book: *kind is 1 for a circuit, whose amplitude is the amount (*live and *ties are 0), or 2 for a table, with its
- * live bits, its ties, and its power and phase as the amount. Refuses 9, 10, then 14, then as the body is refused, whatever the
- * other bodies are. */
+/* Body j of a book: *kind is 1 for a circuit, whose amplitude is the amount (*live and *ties are 0), 2 for a table, with its
+ * live bits, its ties, and its power and phase as the amount, or 3 for a record, whose chance is the amount (one over two to e has
+ * the power -2e and the phase 0; *live and *ties are 0). Refuses 9, 10, then 14, then as the body is refused, whatever the other
+ * bodies are. */
 uint8_t topazfern_read(const uint8_t *book, size_t book_length, size_t j, uint8_t *kind, size_t *live, size_t *ties,
                        uint8_t *zero, int32_t *power, uint8_t *phase);
 
