@@ -65,6 +65,57 @@ static void amounts(void)
     expect("amounts unchanged", zero == 200 && power == -7 && phase == 201 && kind == 202 && live == 77 && ties == 78);
 }
 
+/* H on wire 0, CX from 0 to 1, both measured as 1; the same with wire 1 as 0; 255 times H and an outcome 0. */
+static const uint8_t alike[] = {1, 0, 0, 17, 0, 1, 80, 0, 1, 80, 1, 1};
+static const uint8_t unlike[] = {1, 0, 0, 17, 0, 1, 80, 0, 1, 80, 1, 0};
+static const uint8_t rounds[] = {64, 255, 0, 1, 0, 0, 80, 0, 0, 65, 0, 0};
+
+/* An outcome of 2, and the same on a wire that is not there. */
+static const uint8_t outcome_2[] = {80, 0, 2, 80, 9, 2};
+
+/* A book of edition 2 with three records: of the first two lists, and one without gates; and the same as edition 1. */
+static const uint8_t records[] = {0x51, 0x4E, 2, 3, 3, 2, 16, 0, 28, 0, 0, 0, 3, 2, 16, 0, 44, 0, 0, 0, 3, 1, 4, 0, 60, 0, 0, 0,
+                                  0, 0, 0, 0, 1, 0, 0, 17, 0, 1, 80, 0, 1, 80, 1, 1,
+                                  0, 0, 0, 0, 1, 0, 0, 17, 0, 1, 80, 0, 1, 80, 1, 0, 1, 0, 0, 0};
+static const uint8_t too_early[] = {0x51, 0x4E, 1, 1, 3, 1, 4, 0, 12, 0, 0, 0, 0, 0, 0, 0};
+
+static void chances(void)
+{
+    uint8_t never = 200;
+    uint32_t power = 7;
+
+    expect("bytes not in threes", topazfern_chance(1, 0, alike, 2, &never, &power) == 11);
+    expect("a record of width 0", topazfern_chance(0, 0, alike, 0, &never, &power) == 6);
+    expect("a record of width 32", topazfern_chance(32, 0, alike, 0, &never, &power) == 6);
+    expect("a record's input beyond the width", topazfern_chance(2, 4, alike, 12, &never, &power) == 8);
+    expect("a record of code 9", topazfern_chance(1, 0, unopened + 3, 3, &never, &power) == 7);
+    expect("an outcome of 2", topazfern_chance(1, 0, outcome_2, 3, &never, &power) == TOPAZFERN_RANGE);
+    expect("a measured wire that is not there", topazfern_chance(1, 0, outcome_2 + 3, 3, &never, &power) == 6);
+    expect("a record's block that was not opened", topazfern_chance(1, 0, unopened, 3, &never, &power) == TOPAZFERN_BLOCK);
+    expect("chances unchanged", never == 200 && power == 7);
+    expect("no gates", topazfern_chance(1, 1, alike, 0, &never, &power) == 0 && never == 0 && power == 0);
+    expect("both alike", topazfern_chance(2, 0, alike, sizeof alike, &never, &power) == 0 && never == 0 && power == 1);
+    expect("255 rounds", topazfern_chance(1, 0, rounds, sizeof rounds, &never, &power) == 0 && never == 0 && power == 255);
+    expect("one unlike the other", topazfern_chance(2, 0, unlike, sizeof unlike, &never, &power) == 0 && never == 1 && power == 0);
+}
+
+static void records_in_books(void)
+{
+    uint8_t zero = 200, phase = 201, kind = 202;
+    int32_t power = -7;
+    size_t live = 77, ties = 78;
+
+    expect("a record in edition 1", topazfern_read(too_early, sizeof too_early, 0, &kind, &live, &ties, &zero, &power, &phase) == 10);
+    expect("a measurement in a circuit", topazfern_amplitude(2, 2, 0, 0, alike, sizeof alike, &zero, &power, &phase) == 7);
+    expect("records unchanged", zero == 200 && power == -7 && phase == 201 && kind == 202 && live == 77 && ties == 78);
+    expect("a record", topazfern_read(records, sizeof records, 0, &kind, &live, &ties, &zero, &power, &phase) == 0);
+    expect("its chance is a half", kind == 3 && live == 0 && ties == 0 && zero == 0 && power == -2 && phase == 0);
+    expect("an impossible record", topazfern_read(records, sizeof records, 1, &kind, &live, &ties, &zero, &power, &phase) == 0);
+    expect("it has no chance", kind == 3 && live == 0 && ties == 0 && zero == 1 && power == 0 && phase == 0);
+    expect("a record without gates", topazfern_read(records, sizeof records, 2, &kind, &live, &ties, &zero, &power, &phase) == 0);
+    expect("it is certain", kind == 3 && zero == 0 && power == 0 && phase == 0);
+}
+
 static void areas(void)
 {
     uint8_t area[40], before[40];
@@ -96,6 +147,8 @@ int main(void)
 {
     bodies();
     amounts();
+    chances();
+    records_in_books();
     areas();
     if (!bad)
         puts("refused calls change nothing");

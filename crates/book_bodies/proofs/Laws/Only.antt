@@ -9,7 +9,7 @@ use Rattle.exact.specs.Answer.{amountOf}
 use Rattle.bits.proofs.Laws.Bit.{same-or}
 use Rattle.state.specs.Normal.{Normal}
 use Rattle.exact.specs.declared.Told.the-variants.{Is as IsChance}
-use Rattle.exact.specs.Inner.Chance.{chanceOf}
+use Rattle.exact.specs.Inner.Held.{chanceOf}
 use Rattle.circuit.proofs.Laws.Only.{one-amplitude}
 use Rattle.record.proofs.Laws.Only.{one-chance}
 use Rattle.body_bytes.specs.Body.{bodyFault}

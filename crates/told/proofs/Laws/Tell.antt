@@ -11,7 +11,7 @@ use Rattle.exact.specs.declared.Chance.{Chance}
 use Rattle.exact.specs.declared.Told.{Told as ChanceAnswer}
 use Rattle.exact.specs.declared.Told.the-variants.{Refused as NotTold, Is as IsChance}
 use Rattle.exact.specs.Chance.{chanceAmount}
-use Rattle.exact.specs.Inner.Chance.{chanceOf}
+use Rattle.exact.specs.Inner.Held.{chanceOf}
 use Rattle.exact.specs.Chance.{numberOf as chanceNumber}
 use Rattle.state.specs.Entry.{ties}
 use Rattle.book_bodies.specs.declared.Said.{Said}
