@@ -8,10 +8,12 @@ use Rattle.exact.specs.declared.Answer.the-variants.{Is}
 use Rattle.exact.specs.Answer.{amountOf}
 use Rattle.bits.proofs.Laws.Bit.{same-or}
 use Rattle.state.specs.Normal.{Normal}
+use Rattle.contents.specs.Contents.{goodKind}
+use Rattle.contents.proofs.Laws.Entry.{kind-cases}
 use Rattle.circuit.proofs.Laws.Only.{one-amplitude}
 use Rattle.body_bytes.specs.Body.{bodyFault}
 use Rattle.body_read.specs.Table.{tableOf}
-use Rattle.book_bodies.specs.Number.{inputOf, outputOf, gatesOf, circuitBodyNumber, TableNumber}
+use Rattle.book_bodies.specs.Number.{inputOf, outputOf, gatesOf, circuitBodyNumber, TableNumber, OwnNumber}
 use Rattle.book_bodies.specs.Answer.{Body, saidNumber, saidAmount, circuitBody, CircuitAnswer, TableAnswer}
 
 -- ---- a table's body
@@ -43,3 +45,8 @@ module _ (n : ℕ) (bs : List ℕ) where
       given z =
           let e = one-amplitude ed n (inputOf bs) (outputOf bs) (gatesOf bs) (Is (saidAmount (r .said))) (Is (saidAmount (s .said))) (R .value z) (S .value z) in
           R .given z ∙ ap circuitBody (ap amountOf e) ∙ sym (S .given z)
+
+-- ---- a body by its kind
+pub one-own-number : (e kind n : ℕ) (bs : List ℕ) (k m : ℕ) → goodKind kind ≡ true → OwnNumber e kind n bs k → OwnNumber e kind n bs m → k ≡ m
+one-own-number e kind n bs k m g K M =
+    ⊎-elim (λ c. K .circuit c ∙ sym (M .circuit c)) (λ c. one-table-number n bs k m (K .table c) (M .table c)) (kind-cases kind g)

@@ -1,0 +1,5 @@
+pub mod Run
+pub mod Parts
+pub mod Size
+pub mod Order
+pub mod Only
