@@ -10,7 +10,7 @@ use Rattle.exact.proofs.Laws.Sum.{split}
 use Rattle.contents.specs.declared.Entry.{Entry}
 use Rattle.contents.specs.Contents.{entryOf}
 use Rattle.edit_numbers.specs.Volume.{skip}
-use Rattle.edit_lists.specs.Inner.Lists.{Upto}
+use Rattle.edit_plans.specs.Inner.Lists.{Upto}
 
 pub upto-none : (bs : List ℕ) (j : ℕ) (ks ws ls : List ℕ) → Upto bs 0 j ks ws ls
 upto-none bs j ks ws ls = record { kind = λ i h. absurd (omega arith); width = λ i h. absurd (omega arith); size = λ i h. absurd (omega arith) }

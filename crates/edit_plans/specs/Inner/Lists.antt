@@ -1,13 +1,11 @@
 -- The lists of a book's contents: what they hold of each body.
-use mathlib.Core.Bool.{cond}
 use mathlib.Core.List.{List}
 use mathlib.Core.Path.{_≡_}
-use Prim.Native.Nat.{ℕ, suc, _≤_, _<_}
-use lib.Dec.{ltb}
-use lib.ListN.{getD, set}
+use Prim.Native.Nat.{ℕ, _≤_, _<_}
+use lib.ListN.{length, getD, set}
 use Rattle.contents.specs.Contents.{countOf, kindOf, widthOf, lengthOf, contentsNumber}
 use Rattle.edit_numbers.specs.Volume.{skip}
-pub use Rattle.edit_lists.specs.declared.Lists.{Lists}
+pub use Rattle.edit_plans.specs.declared.Lists.{Lists}
 
 -- a book with good contents, and bodies that it has
 pub record Readable (bs : List ℕ) (n j : ℕ) : Type 0 where
@@ -24,6 +22,7 @@ pub record Upto (bs : List ℕ) (n j : ℕ) (ks ws ls : List ℕ) : Type 0 where
 pub record Reads (bs : List ℕ) (n j : ℕ) (l : Lists) : Type 0 where
   pub counted : l .count ≡ n
   pub listed : Upto bs n j (l .kinds) (l .widths) (l .lengths)
+  pub long : (length (l .kinds) ≡ 16) × (length (l .widths) ≡ 16) × (length (l .lengths) ≡ 16)
 
 -- a new body in the place of body j, and n bodies
 pub record Put (l : Lists) (n j kind width size : ℕ) (r : Lists) : Type 0 where
