@@ -1,2 +1,3 @@
 pub mod Tested
 pub mod Parts
+pub mod Passed

@@ -50,6 +50,7 @@ module _ (bs : List ℕ) (z : contentsNumber bs ≡ 0) where
     held-removed n l e R = record {
       counted = R .counted ∙ ap (λ (k : ℕ). k - 1) e;
       few = omega (arith, few);
+      long = R .long;
       kinds = taken (l .kinds) (l .count) (countOf bs - 1) _ (R .long .0) (omega (arith, few)) (R .counted ∙ ap (λ (k : ℕ). k - 1) e) (λ i b. R .listed .kind i (omega arith));
       widths = taken (l .widths) (l .count) (countOf bs - 1) _ (R .long .1) (omega (arith, few)) (R .counted ∙ ap (λ (k : ℕ). k - 1) e) (λ i b. R .listed .width i (omega arith));
       lengths = taken (l .lengths) (l .count) (countOf bs - 1) _ (R .long .2) (omega (arith, few)) (R .counted ∙ ap (λ (k : ℕ). k - 1) e) (λ i b. R .listed .size i (omega arith) ∙ sym (body-length (skip j i) (skipped i b)));
@@ -80,6 +81,11 @@ module _ (bs : List ℕ) (z : contentsNumber bs ≡ 0) where
     held-put v q ks ws bodies = record {
       counted = P .counted ∙ sym q;
       few = omega (arith, q);
+      long = (
+        longs (l .kinds) (r .kinds) kind (R .long .0) (P .kinds),
+        longs (l .widths) (r .widths) width (R .long .1) (P .widths),
+        longs (l .lengths) (r .lengths) (length new) (R .long .2) (P .lengths),
+      );
       kinds = taken (r .kinds) (r .count) (v .count) _ (longs (l .kinds) (r .kinds) kind (R .long .0) (P .kinds)) (omega (arith, q)) (P .counted ∙ sym q) (λ i b. one (l .kinds) (r .kinds) kind (kindOf bs) (R .long .0) (P .kinds) (R .listed .kind) i (omega (arith, q)) ∙ sym (ks i));
       widths = taken (r .widths) (r .count) (v .count) _ (longs (l .widths) (r .widths) width (R .long .1) (P .widths)) (omega (arith, q)) (P .counted ∙ sym q) (λ i b. one (l .widths) (r .widths) width (widthOf bs) (R .long .1) (P .widths) (R .listed .width) i (omega (arith, q)) ∙ sym (ws i));
       lengths = taken (r .lengths) (r .count) (v .count) _ (longs (l .lengths) (r .lengths) (length new) (R .long .2) (P .lengths)) (omega (arith, q)) (P .counted ∙ sym q) (λ i b. one (l .lengths) (r .lengths) (length new) (lengthOf bs) (R .long .2) (P .lengths) (R .listed .size) i (omega (arith, q)) ∙ sizes i (omega (arith, q)) ∙ ap length (sym (bodies i)));

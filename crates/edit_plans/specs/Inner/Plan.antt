@@ -20,6 +20,7 @@ pub record NewFits (bs new : List ℕ) : Type 0 where
 pub record Held (v : Volume) (l : Lists) : Type 0 where
   pub counted : l .count ≡ v .count
   pub few : v .count ≤ 16
+  pub long : (length (l .kinds) ≡ 16) × (length (l .widths) ≡ 16) × (length (l .lengths) ≡ 16)
   pub kinds : take (l .count) (l .kinds) ≡ listed (v .count) (v .kind)
   pub widths : take (l .count) (l .widths) ≡ listed (v .count) (v .width)
   pub lengths : take (l .count) (l .lengths) ≡ listed (v .count) (λ i. length (v .body i))

@@ -1,0 +1,8 @@
+pub mod Settle
+pub mod Accepted
+pub mod Bodies
+pub mod Lay
+pub mod Done
+pub mod Book
+pub mod Same
+pub mod Only
