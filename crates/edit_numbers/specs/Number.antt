@@ -43,24 +43,24 @@ found k = not (eqb k accepted) gives k
 abbrev pub sizeAfter : List ℕ → Edit → ℕ
 sizeAfter bs e = length (closedUp (edited e (volumeOf bs)))
 
--- k is the number of an edit of the book bs in an area of so many bytes. "book refusals, 14, 10 for a bad kind, the body's own, 9 for a seventeenth body, 10 for 60,000, 13 for the area"
+-- "book refusals, 14, 10 for a bad kind, the body's own, 9 for a seventeenth body, 10 for 60,000, 13 for the area": the book's number and the new body's own, and whether each other test holds
+abbrev pub order : ℕ → Bool → Bool → ℕ → Bool → Bool → Bool → ℕ
+order whole none bad own many long short =
+    first
+    (found whole
+    ∷ (none gives noBody) ∷ (bad gives badContents)
+    ∷ found own ∷ (many gives badHeader)
+    ∷ (long gives badContents) ∷ (short gives areaShort)
+    ∷ [])
+
+-- k is the number of an edit of the book bs in an area of so many bytes
 pub record BookEdit (bs : List ℕ) (room : ℕ) (e : Edit) (k : ℕ) : Type 0 where
   pub whole : ℕ
   pub tested : BookNumber bs whole
   pub own : ℕ
   pub owned : whole ≡ accepted → missing e (countOf bs) ≡ false → badNew e ≡ false → OwnOf (editionOf bs) e own
   -- "Adding and replacing are refused for room exactly when the closed-up result would exceed 60,000 bytes or the area."
-  pub is :
-      k
-      ≡ first
-      (found whole
-      ∷ (missing e (countOf bs) gives noBody)
-      ∷ (badNew e gives badContents)
-      ∷ found own
-      ∷ (seventeenth e (countOf bs) gives badHeader)
-      ∷ (ltb 60000 (sizeAfter bs e) gives badContents)
-      ∷ (ltb room (sizeAfter bs e) gives areaShort)
-      ∷ [])
+  pub is : k ≡ order whole (missing e (countOf bs)) (badNew e) own (seventeenth e (countOf bs)) (ltb 60000 (sizeAfter bs e)) (ltb room (sizeAfter bs e))
 
 -- k is the number of an edit of the first n bytes of an area. "13 for a stated length beyond the area"
 pub record EditNumber (xs : List ℕ) (n : ℕ) (e : Edit) (k : ℕ) : Type 0 where

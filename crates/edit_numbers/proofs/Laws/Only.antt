@@ -13,8 +13,8 @@ use Rattle.contents.specs.Contents.{editionOf, countOf, goodKind}
 use Rattle.book_bodies.proofs.Laws.Only.{one-own-number}
 use Rattle.book.proofs.Laws.Only.{one-number}
 use Rattle.edit_numbers.specs.Volume.{Edit, remove, replace, add}
-use Rattle.edit_numbers.specs.Number.{missing, badNew, OwnOf, seventeenth, sizeAfter, BookEdit, EditNumber}
-use Rattle.edit_numbers.proofs.Laws.Order.{order, order-whole, order-missing, order-kind}
+use Rattle.edit_numbers.specs.Number.{missing, badNew, OwnOf, seventeenth, sizeAfter, order, BookEdit, EditNumber}
+use Rattle.edit_numbers.proofs.Laws.Order.{order-whole, order-missing, order-kind}
 
 -- a new body of a good kind has one number
 own-only : (ed : ℕ) (e : Edit) (o p : ℕ) → badNew e ≡ false → OwnOf ed e o → OwnOf ed e p → o ≡ p

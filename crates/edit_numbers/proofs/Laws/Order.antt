@@ -7,19 +7,15 @@ use Prim.Native.Nat.{ℕ, _≤_, _<_}
 use native.Mathlib.Omega.{arith}
 use lib.Dec.{ltb}
 use borrow.Author.Tests.{lt-ltb, le-ltb, eq-eqb, ne-eqb}
-use Rattle.exact.specs.Refusal.{badHeader, badContents, areaShort, noBody, first, _gives_}
+use Rattle.exact.specs.Refusal.{badContents, areaShort, first, _gives_}
 use Rattle.contents.specs.Contents.{editionOf, countOf, goodKind}
 use Rattle.book_bodies.specs.Number.{OwnNumber}
 use Rattle.book.specs.Book.{BookNumber}
 use Rattle.edit_numbers.specs.Volume.{Edit}
-use Rattle.edit_numbers.specs.Number.{missing, badNew, OwnOf, seventeenth, found, sizeAfter, BookEdit}
+use Rattle.edit_numbers.specs.Number.{missing, badNew, OwnOf, seventeenth, sizeAfter, order, BookEdit}
 use Rattle.edit_numbers.specs.Inner.Tested.{NewNumber, roomNumber}
 
 -- ---- the order of the tests
-abbrev pub order : ℕ → Bool → Bool → ℕ → Bool → Bool → Bool → ℕ
-order w m b o s t u =
-    first (found w ∷ (m gives noBody) ∷ (b gives badContents) ∷ found o ∷ (s gives badHeader) ∷ (t gives badContents) ∷ (u gives areaShort) ∷ [])
-
 module _ (w : ℕ) (m b : Bool) (o : ℕ) (s t u : Bool) where
   pub order-whole : w ≢ 0 → w ≡ order w m b o s t u
   order-whole ne = rw (ne-eqb w 0 ne)

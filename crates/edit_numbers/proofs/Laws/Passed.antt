@@ -12,9 +12,9 @@ use Rattle.bits.proofs.Laws.Bit.{same-or}
 use Rattle.contents.specs.Contents.{editionOf, countOf}
 use Rattle.book.specs.Book.{BookNumber}
 use Rattle.edit_numbers.specs.Volume.{Edit}
-use Rattle.edit_numbers.specs.Number.{missing, badNew, OwnOf, seventeenth, sizeAfter, BookEdit}
+use Rattle.edit_numbers.specs.Number.{missing, badNew, OwnOf, seventeenth, sizeAfter, order, BookEdit}
 use Rattle.edit_numbers.specs.Inner.Passed.{Passed}
-use Rattle.edit_numbers.proofs.Laws.Order.{order, order-whole, order-missing, order-kind, order-own, order-seventeenth, order-room}
+use Rattle.edit_numbers.proofs.Laws.Order.{order-whole, order-missing, order-kind, order-own, order-seventeenth, order-room}
 
 -- ---- the tests of an order that gives 0
 module _ (w : ℕ) (m b : Bool) (o : ℕ) (s t u : Bool) (z : order w m b o s t u ≡ 0) where
