@@ -3,6 +3,4 @@ pub mod Accepted
 pub mod Bodies
 pub mod Lay
 pub mod Done
-pub mod Book
-pub mod Same
 pub mod Only

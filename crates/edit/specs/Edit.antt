@@ -1,13 +1,11 @@
--- What an edit of a book answers and how it leaves the area; and what it leaves is a book of.
+-- What an edit of a book answers and how it leaves the area.
 use mathlib.Core.List.{List, _++_}
 use mathlib.Core.Logic.{_≢_}
 use mathlib.Core.Path.{_≡_}
-use Prim.Native.Nat.{ℕ, _+_, _-_, _<_}
+use Prim.Native.Nat.{ℕ, _+_, _-_}
 use lib.ListN.{length, take, drop, replicate}
 use Rattle.exact.specs.Refusal.{accepted}
-use Rattle.contents.specs.Contents.{editionOf, countOf, kindOf, widthOf}
-use Rattle.book.specs.Book.{bytesOf, BookNumber}
-use Rattle.edit_numbers.specs.Volume.{Volume, Edit, volumeOf, edited, closedUp}
+use Rattle.edit_numbers.specs.Volume.{Edit, volumeOf, edited, closedUp}
 use Rattle.edit_numbers.specs.Number.{EditNumber}
 pub use Rattle.edit.specs.declared.Edited.{Edited}
 
@@ -32,12 +30,3 @@ pub record Edits (xs : List ℕ) (n : ℕ) (e : Edit) (r : Edited) (ys : List �
   -- "a refused one 0, with no byte changed"
   pub refused : r .refusal ≢ accepted → (r ≡ refusal (r .refusal)) × (ys ≡ xs)
   pub done : r .refusal ≡ accepted → (r ≡ newLength (length (after xs n e))) × (ys ≡ closed xs n (after xs n e))
-
--- bs is an accepted book of exactly these bodies
-pub record BookOf (v : Volume) (bs : List ℕ) : Type 0 where
-  pub number : BookNumber bs accepted
-  pub edition : editionOf bs ≡ v .edition
-  pub count : countOf bs ≡ v .count
-  pub kind : (i : ℕ) → i < v .count → kindOf bs i ≡ v .kind i
-  pub width : (i : ℕ) → i < v .count → widthOf bs i ≡ v .width i
-  pub body : (i : ℕ) → i < v .count → bytesOf bs i ≡ v .body i

@@ -34,6 +34,6 @@ module _ (xs : List ℕ) (n old new from to : ℕ) (body : List ℕ) (S : Splice
       ahead = λ p l h. D .else p (inl (omega arith)) ∙ C .else p (inl h) ∙ B .else p (inl (omega arith)) ∙ A .here p l h;
       here = λ p l h. D .else p (inl (omega arith)) ∙ C .here p l h;
       rest = λ p l h. D .else p (inl h) ∙ C .else p (inr l) ∙ B .here p l h ∙ untouched p l h;
-      zeros = D .here;
+      zeros = λ p l h. D .here p l (omega (arith, h));
       stays = stays;
     }

@@ -28,7 +28,10 @@ edition-requires : tie.Need-edition-requires
 edition-requires c κs = search needs
 
 cast-put : tie.Need-cast-put
-cast-put c = search needs
+cast-put c =
+    let e = c .before .before .entry-at in
+    let s = c .before .before .before .before .before .before in
+    omega (arith, s .pre .0 .short, entry-within (s .args .book .now) (s .pre .0 .good) (s .args .j) (e .result) (s .pre .1) (e .ensures))
 
 put-requires : tie.Need-put-requires
 put-requires c κs =

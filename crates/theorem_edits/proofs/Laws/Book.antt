@@ -22,11 +22,13 @@ use Rattle.edit_numbers.specs.Volume.{Volume, Edit, remove, replace, add, volum
 use Rattle.edit_numbers.specs.Inner.Passed.{Passed}
 use Rattle.edit_numbers.proofs.Laws.Parts.{kindsOf, widthsOf, lengthsOf}
 use Rattle.edit_numbers.proofs.Laws.Passed.{passed}
-use Rattle.edit.specs.Edit.{Edited, Edits, BookOf}
+use Rattle.edit.specs.declared.Edited.{Edited}
+use Rattle.edit.specs.Edit.{Edits}
+use Rattle.theorem_edits.specs.Book.{BookOf}
 use Rattle.edit.proofs.Laws.Accepted.{edition-good}
 use Rattle.edit.proofs.Laws.Bodies.{Fine, fine-edited}
 use Rattle.edit.proofs.Laws.Lay.{lay-volume}
 use Rattle.edit.proofs.Laws.Done.{same-edition}
 
 -- a body in its place of the lists, from its own number
 fits-of : (ed : ℕ) (ks ws ls : List ℕ) (j k w : ℕ) (body : List ℕ) → getD ks j 0 ≡ k → getD ws j 0 ≡ w → length body ≡ getD ls j 0 → OwnNumber ed k w body accepted → Fits ed ks ws ls j body

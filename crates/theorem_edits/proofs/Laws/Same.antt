@@ -27,9 +27,10 @@ use Rattle.edit_numbers.proofs.Laws.Parts.{kindsOf, widthsOf, lengthsOf, closed
 use Rattle.edit_numbers.proofs.Laws.Order.{room-tested, room-none}
 use Rattle.edit_numbers.proofs.Laws.Only.{one-edit-number}
 use Rattle.edit_plans.proofs.Laws.Held.{body-length}
-use Rattle.edit.specs.Edit.{Edited, newLength, closed, Edits}
+use Rattle.edit.specs.declared.Edited.{Edited}
+use Rattle.edit.specs.Edit.{newLength, closed, Edits}
 use Rattle.edit.proofs.Laws.Accepted.{letter-one, letter-two}
 use Rattle.edit.proofs.Laws.Bodies.{fine-old}
 
 module _ (bs : List ℕ) (small : (i : ℕ) → byteAt bs i < 256) (z : contentsNumber bs ≡ 0) where
   abbrev v : Volume
