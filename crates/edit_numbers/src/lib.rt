@@ -1,4 +1,4 @@
-// The number that refuses an edit of a book: found before a byte is changed.
+// The number that refuses an edit of a book: found before a byte is changed. Inner: a book that a body is removed from lies within the area (`requires`).
 ghost use mathlib.Core.Path.{_≡_};
 ghost use Prim.Native.Nat.{_+_, _≤_};
 ghost use lib.ListN.{length};

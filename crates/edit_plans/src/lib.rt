@@ -101,13 +101,16 @@ pub fn replacement(book: &[u8], j: usize, kind: u8, width: u8, body: &[u8]) -> P
 {
     let count = contents::count(book);
     let e = contents::entry_at(book, j);
+    let from = e.start;
+    let gone = e.length;
+    let come = body.len();
     let l = read(book, count, count);
     Plan {
         edition: contents::edition(book),
-        lists: put(l, count, j, kind, width, body.len() as u16),
+        lists: put(l, count, j, kind, width, come as u16),
         old: 4 + 8 * count,
-        from: e.start,
-        to: e.start + e.length,
+        from: from,
+        to: from + gone,
     }
 }
 

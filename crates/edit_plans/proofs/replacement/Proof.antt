@@ -38,32 +38,32 @@ put-requires c κs =
     let s = c .before .before .before .before .before .before in
     omega (arith, s .pre .1, good (s .args .book .now) (s .pre .0 .good) .count)
 
-mul-t13 : tie.Need-mul-t13
-mul-t13 c =
+mul-t15 : tie.Need-mul-t15
+mul-t15 c =
     let n = c .before .before .before .before .count in
     let s = c .before .before .before .before .before .before .before in
     omega (arith, n .ensures, good (s .args .book .now) (s .pre .0 .good) .count)
 
-add-t14 : tie.Need-add-t14
-add-t14 c =
+add-t16 : tie.Need-add-t16
+add-t16 c =
     let n = c .before .before .before .before .count in
     let s = c .before .before .before .before .before .before .before in
     omega (arith, n .ensures, good (s .args .book .now) (s .pre .0 .good) .count)
 
-add-t15 : tie.Need-add-t15
-add-t15 c =
-    let e = c .before .before .before .before .entry-at in
-    let s = c .before .before .before .before .before .before .before .before in
+add-t17 : tie.Need-add-t17
+add-t17 c =
+    let e = c .before .before .before .entry-at in
+    let s = c .before .before .before .before .before .before .before in
     omega (arith, entry-within (s .args .book .now) (s .pre .0 .good) (s .args .j) (e .result) (s .pre .1) (e .ensures))
 
 returns : tie.Need-returns
 returns c =
-    let r = c .before .put in
-    let d = c .before .before .edition in
-    let l = c .before .before .before .read in
-    let e = c .before .before .before .before .entry-at in
-    let n = c .before .before .before .before .before .count in
-    let s = c .before .before .before .before .before .before .before .before in
+    let r = c .put in
+    let d = c .before .edition in
+    let l = c .before .before .read in
+    let e = c .before .before .before .entry-at in
+    let n = c .before .before .before .before .count in
+    let s = c .before .before .before .before .before .before .before in
     let a = s .args in
     let bs = a .book .now in
     let z = s .pre .0 .good in
@@ -75,4 +75,4 @@ returns c =
 
 pub replacement-spec : {M : Type 1} → statement M
 replacement-spec =
-    tie.close (tie.spec count-requires entry-at-requires read-requires edition-requires cast-put put-requires mul-t13 add-t14 add-t15 returns)
+    tie.close (tie.spec count-requires entry-at-requires read-requires edition-requires cast-put put-requires mul-t15 add-t16 add-t17 returns)
