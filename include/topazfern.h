@@ -3,7 +3,7 @@
  * Link with libtopazfern.a (x86-64 Linux): rt staticlib topazfern; cc program.c target/staticlib/libtopazfern.a
  *
  * Each call takes any bytes and any numbers, ends, keeps nothing and calls nothing back. A call that answers a number of
- * refusal (1..16, below) has changed nothing behind its pointers, but that a writer sets *bytes to 0. The caller owes what C
+ * refusal (1..16, below) has changed nothing behind its pointers, but that a writer sets *bytes, and an edit *new_length, to 0. The caller owes what C
  * cannot check: each pointer is valid for its length (a length of 0 may come with any pointer that is not null), and no two
  * of a call's pointers overlap where one of them is written through. Calls may run at the same time on different memory.
  *
@@ -30,11 +30,11 @@ enum {
     TOPAZFERN_WIDTH = 6,         /* width of a circuit not 1..31, or a wire not below it */
     TOPAZFERN_CODE = 7,          /* unknown gate code */
     TOPAZFERN_STRING = 8,        /* a string has a bit at or above the width */
-    TOPAZFERN_HEADER = 9,        /* a book's length, letters, edition or count; an edition other than 1 or 2; a list to lay of more than 16 */
-    TOPAZFERN_CONTENTS = 10,     /* a book's contents; lists to lay unequal, bad kind, or total above 60,000 */
+    TOPAZFERN_HEADER = 9,        /* a book's length, letters, edition or count; an edition other than 1 or 2; a list to lay of more than 16; a seventeenth body */
+    TOPAZFERN_CONTENTS = 10,     /* a book's contents; lists to lay unequal, bad kind, or total above 60,000; the same of an edit */
     TOPAZFERN_BODY = 11,         /* body length wrong, more than 4,096 gates and marks, or elements to close, or a field out of range */
     TOPAZFERN_NOT_NORMAL = 12,   /* a table that is not normal */
-    TOPAZFERN_ROOM = 13,         /* the area is too short for what is to be written, or the start is beyond its end */
+    TOPAZFERN_ROOM = 13,         /* the area is too short for what is to be written, or the start or a stated length is beyond its end */
     TOPAZFERN_NO_BODY = 14,      /* no body of that number */
     TOPAZFERN_BLOCK = 16         /* a block unclosed, empty or unopened, more than 8 deep, or more than 65,536 gates written out */
 };
@@ -85,6 +85,18 @@ uint8_t topazfern_lay(uint8_t *area, size_t area_length, uint8_t edition, const 
 /* A table body of this width, tested, written into area from start on: the same bytes. Refuses 11, 12, 13. */
 uint8_t topazfern_write(const uint8_t *body, size_t body_length, uint8_t width, uint8_t *area, size_t area_length,
                         size_t start, size_t *bytes);
+
+/* A book edited where it stands: the first length bytes of area are a book, and the rest of area is room. Body j is removed, or replaced,
+ * or a body is added at the end; a new body comes as kind, width and bytes, which must not overlap the area. Contents and bodies close up,
+ * the other bodies keep their bytes and order, bytes between the new end and the old one become zero, and all bytes beyond both stay.
+ * *new_length is how long the book is then, at most 60,000; where refused it is 0, and no byte of area has changed.
+ * Refuses 13 (length beyond the area), then as the whole book is refused (9, 10, its bodies in order), 14, 10 (the new body's kind), as the
+ * new body is refused in the book's edition, 9 (a seventeenth body), 10 (more than 60,000 bytes), 13 (more than the area). */
+uint8_t topazfern_remove(uint8_t *area, size_t area_length, size_t length, size_t j, size_t *new_length);
+uint8_t topazfern_replace(uint8_t *area, size_t area_length, size_t length, size_t j, uint8_t kind, uint8_t width,
+                          const uint8_t *body, size_t body_length, size_t *new_length);
+uint8_t topazfern_add(uint8_t *area, size_t area_length, size_t length, uint8_t kind, uint8_t width,
+                      const uint8_t *body, size_t body_length, size_t *new_length);
 
 /* The 24 one-wire Cliffords by their numbers (docs/cliffords.md), modulo global phase. *element is the answer, 0..23.
  * The product: i, then j. The inverse: what undoes i. Both refuse 3 for a number above 23. */

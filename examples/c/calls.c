@@ -1,4 +1,4 @@
-/* Topazfern from C: an amplitude, a listing, a book that is put together and read back, and the closing gate of a one-wire run. */
+/* Topazfern from C: an amplitude, a listing, a book that is put together, read back and edited where it stands, and the closing gate of a one-wire run. */
 #include <stdio.h>
 #include <string.h>
 
@@ -100,6 +100,43 @@ static void elements(void)
     printf("a run with 24 in it: refused %d\n", topazfern_closing(run, 4, &element));
 }
 
+/* What an edit answered, and the book as it stands. */
+static void edited(const char *what, uint8_t refused, const uint8_t *book, size_t length)
+{
+    uint8_t text[TOPAZFERN_LISTING_MAX];
+
+    if (refused) {
+        printf("%s: refused %d\n", what, refused);
+        return;
+    }
+    printf("%s: %zu bytes\n", what, length);
+    fwrite(text, 1, topazfern_listing(book, length, text, sizeof text), stdout);
+}
+
+/* Bodies removed, replaced and added where the book stands; the rest of the area is its room. */
+static void edits(uint8_t *book, size_t room, size_t length)
+{
+    static const uint8_t sx[] = {0, 0, 0, 0, 0, 0, 0, 0, 7, 0, 0}, empty[] = {0, 0, 0, 0, 0};
+    size_t told;
+    uint8_t refused;
+
+    refused = topazfern_remove(book, room, length, 0, &told);
+    length = refused ? length : told;
+    edited("body 0 removed", refused, book, length);
+    refused = topazfern_add(book, room, length, 1, 1, sx, sizeof sx, &told);
+    length = refused ? length : told;
+    edited("SX added", refused, book, length);
+    refused = topazfern_replace(book, room, length, 0, 2, 0, empty, sizeof empty, &told);
+    length = refused ? length : told;
+    edited("body 0 replaced", refused, book, length);
+    refused = topazfern_replace(book, room, length, 0, 2, 1, empty, sizeof empty, &told);
+    edited("a body too short for its width", refused, book, length);
+    refused = topazfern_add(book, length + 12, length, 2, 0, empty, sizeof empty, &told);
+    edited("no room for 13 bytes more", refused, book, length);
+    refused = topazfern_remove(book, room, length, 2, &told);
+    edited("no third body", refused, book, length);
+}
+
 int main(void)
 {
     uint8_t book[100], text[TOPAZFERN_LISTING_MAX], kind, zero, phase, refused;
@@ -118,6 +155,7 @@ int main(void)
         else
             printf("body %zu: kind %d, live %zu, ties %zu, zero %d, power %d, phase %d\n", j, kind, live, ties, zero, power, phase);
     }
+    edits(book, sizeof book, length);
     elements();
     return 0;
 }

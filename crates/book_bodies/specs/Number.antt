@@ -46,3 +46,10 @@ pub record TableNumber (n : ℕ) (bs : List ℕ) (k : ℕ) : Type 0 where
   pub sound : bodyFault n bs ≡ false → Normal (tableOf n bs) → k ≡ accepted
   -- not refused: the table is normal
   pub normal : k ≡ accepted → Normal (tableOf n bs)
+
+-- ---- a body by its kind
+-- k is the number of a body of this kind and width on its own, in a book of edition e. "kind (1 circuit, 2 table)"; "Body kind 3 in edition 2"
+pub record OwnNumber (e kind n : ℕ) (bs : List ℕ) (k : ℕ) : Type 0 where
+  pub circuit : kind ≡ 1 → k ≡ circuitBodyNumber e n bs
+  pub table : kind ≡ 2 → TableNumber n bs k
+  pub recorded : kind ≡ 3 → k ≡ recordBodyNumber n bs

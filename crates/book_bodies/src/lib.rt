@@ -1,6 +1,6 @@
 // A body of a book on its own: what it answers, and the number that refuses it. Inner: `refused` and the faults serve the book.
 ghost use mathlib.Core.Path.{_≡_};
-ghost use Rattle.book_bodies.specs.Number.{circuitBodyNumber, recordBodyNumber, TableNumber};
+ghost use Rattle.book_bodies.specs.Number.{circuitBodyNumber, recordBodyNumber, TableNumber, OwnNumber};
 ghost use Rattle.book_bodies.specs.Inner.Said.{saidOf, saidTold};
 ghost use Rattle.book_bodies.specs.Answer.{refusal, CircuitAnswer, RecordAnswer, TableAnswer};
 use exact::Amount;
@@ -132,4 +132,17 @@ pub fn table_fault(part: &[u8], width: u8) -> u8
 {
     let r = body_read::read(part, width);
     r.refusal
+}
+
+// The number that refuses a body of this kind and width in a book of this edition, 0 for none.
+pub fn own_fault(edition: u8, kind: u8, part: &[u8], width: u8) -> u8
+    ensures { λ r. ⌜ OwnNumber edition kind width (now (part .entry)) r ⌝ }
+{
+    if kind == 1 {
+        return circuit_fault(edition, part, width);
+    }
+    if kind == 3 {
+        return record_fault(part, width);
+    }
+    table_fault(part, width)
 }

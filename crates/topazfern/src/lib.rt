@@ -2,6 +2,8 @@
 ghost use Rattle.cliffords.specs.Closing.{productNumber, inverseNumber, closingNumber, IsProduct, Undoes, Closes};
 ghost use Rattle.told_cliffords.specs.Told.{ElementTold};
 ghost use Rattle.contents_lay.specs.Lay.{ContentsLaid};
+ghost use Rattle.edit_numbers.specs.Volume.{remove, replace, add};
+ghost use Rattle.edit.specs.Edit.{Edits};
 ghost use Rattle.listing.specs.Listing.{Listed, ListedStrict};
 ghost use Rattle.told.specs.Told.{behind, odds, six};
 ghost use Rattle.topazfern.specs.Calls.{AmplitudeTold, RecordTold, EntryTold, WriteTold, ReadTold, StrictReadTold};
@@ -177,4 +179,57 @@ pub extern "C" fn topazfern_closing(numbers: &[u8], element: &mut u8) -> u8
     ensures { λ n. ⌜ ElementTold (closingNumber (now (numbers .entry))) (Closes (now (numbers .entry))) (now (element .entry)) n (now (element .exit)) ⌝ }
 {
     told_cliffords::closing(numbers, element)
+}
+
+// Body j of the book in the first `length` bytes of an area goes; behind the pointer stands the new length, 0 where refused.
+#[no_mangle]
+pub extern "C" fn topazfern_remove(
+    area: &mut [u8],
+    length: usize,
+    j: usize,
+    bytes: &mut usize,
+) -> u8
+    ensures { λ n. ⌜ Edits (now (area .entry)) length (remove j) (record { refusal = n; length = now (bytes .exit) }) (now (area .exit)) ⌝ }
+{
+    let r = edit::remove(area, length, j);
+    let m = r.length;
+    *bytes = m;
+    r.refusal
+}
+
+// A new body comes in the place of body j of the book in the first `length` bytes of an area.
+#[no_mangle]
+pub extern "C" fn topazfern_replace(
+    area: &mut [u8],
+    length: usize,
+    j: usize,
+    kind: u8,
+    width: u8,
+    body: &[u8],
+    bytes: &mut usize,
+) -> u8
+    ensures { λ n. ⌜ Edits (now (area .entry)) length (replace j kind width (now (body .entry))) (record { refusal = n; length = now (bytes .exit) }) (now (area .exit)) ⌝ }
+{
+    let r = edit::replace(area, length, j, kind, width, body);
+    let m = r.length;
+    *bytes = m;
+    r.refusal
+}
+
+// A new body comes at the end of the book in the first `length` bytes of an area.
+#[no_mangle]
+pub extern "C" fn topazfern_add(
+    area: &mut [u8],
+    length: usize,
+    kind: u8,
+    width: u8,
+    body: &[u8],
+    bytes: &mut usize,
+) -> u8
+    ensures { λ n. ⌜ Edits (now (area .entry)) length (add kind width (now (body .entry))) (record { refusal = n; length = now (bytes .exit) }) (now (area .exit)) ⌝ }
+{
+    let r = edit::add(area, length, kind, width, body);
+    let m = r.length;
+    *bytes = m;
+    r.refusal
 }

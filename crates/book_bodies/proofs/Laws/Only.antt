@@ -10,11 +10,13 @@ use Rattle.bits.proofs.Laws.Bit.{same-or}
 use Rattle.state.specs.Normal.{Normal}
 use Rattle.exact.specs.declared.Told.the-variants.{Is as IsChance}
 use Rattle.exact.specs.Inner.Held.{chanceOf}
+use Rattle.contents.specs.Contents.{goodKind}
+use Rattle.contents.proofs.Laws.Entry.{kind-cases}
 use Rattle.circuit.proofs.Laws.Only.{one-amplitude}
 use Rattle.record.proofs.Laws.Only.{one-chance}
 use Rattle.body_bytes.specs.Body.{bodyFault}
 use Rattle.body_read.specs.Table.{tableOf}
-use Rattle.book_bodies.specs.Number.{inputOf, outputOf, gatesOf, circuitBodyNumber, recordGates, recordBodyNumber, TableNumber}
+use Rattle.book_bodies.specs.Number.{inputOf, outputOf, gatesOf, circuitBodyNumber, recordGates, recordBodyNumber, TableNumber, OwnNumber}
 use Rattle.book_bodies.specs.Answer.{Body, saidNumber, saidAmount, saidChance, circuitBody, recordBody, CircuitAnswer, RecordAnswer, TableAnswer}
 
 -- ---- a table's body
@@ -55,3 +57,9 @@ module _ (n : ℕ) (bs : List ℕ) where
       given z =
           let e = one-chance n (inputOf bs) (recordGates bs) (IsChance (saidChance (r .said))) (IsChance (saidChance (s .said))) (R .value z) (S .value z) in
           R .given z ∙ ap recordBody (ap chanceOf e) ∙ sym (S .given z)
+
+-- ---- a body by its kind
+pub one-own-number : (e kind n : ℕ) (bs : List ℕ) (k m : ℕ) → goodKind e kind ≡ true → OwnNumber e kind n bs k → OwnNumber e kind n bs m → k ≡ m
+one-own-number e kind n bs k m g K M =
+    ⊎-elim (λ c. K .circuit c ∙ sym (M .circuit c))
+    (λ o. ⊎-elim (λ c. one-table-number n bs k m (K .table c) (M .table c)) (λ c. K .recorded (c .1) ∙ sym (M .recorded (c .1))) o) (kind-cases e kind g)
