@@ -1,4 +1,4 @@
-/* Topazfern from C: an amplitude, a listing, a book that is put together, read back and edited where it stands, and the closing gate of a one-wire run. */
+/* Topazfern from C: an amplitude, the chance of a record, a listing, a book that is put together, read back and edited where it stands, and the closing gate of a one-wire run. */
 #include <stdio.h>
 #include <string.h>
 
@@ -44,6 +44,32 @@ static void amplitudes(void)
     show("three times H, S", refused, zero, power, phase);
     refused = topazfern_amplitude(2, 1, 0, 0, thrice, sizeof thrice - 3, &zero, &power, &phase);
     show("a block unclosed", refused, zero, power, phase);
+}
+
+/* The Bell state with both wires measured: alike, and not alike. */
+static const uint8_t alike[] = {1, 0, 0, 17, 0, 1, 80, 0, 1, 80, 1, 1};
+static const uint8_t apart[] = {1, 0, 0, 17, 0, 1, 80, 0, 1, 80, 1, 0};
+
+static void chance(const char *name, uint8_t width, const uint8_t *record, size_t length)
+{
+    uint8_t never, refused;
+    uint32_t power;
+
+    refused = topazfern_chance(width, 0, record, length, &never, &power);
+    if (refused)
+        printf("%s: refused %d\n", name, refused);
+    else if (never)
+        printf("%s: cannot occur\n", name);
+    else
+        printf("%s: one in two to %u\n", name, power);
+}
+
+static void chances(void)
+{
+    chance("both wires 1", 2, alike, sizeof alike);
+    chance("one of each", 2, apart, sizeof apart);
+    chance("the first alone", 2, alike, sizeof alike - 3);
+    chance("a wire that is not there", 1, alike, sizeof alike);
 }
 
 /* Two slots tied to differ, slot 0 turned by a quarter: c = 2 and a_1 = 3. */
@@ -144,6 +170,7 @@ int main(void)
     int32_t power;
 
     amplitudes();
+    chances();
     entries();
     length = build(book, sizeof book);
     printf("a book of %zu bytes\n", length);
