@@ -7,7 +7,7 @@ ghost use Rattle.blocks.specs.Expansion.{itemCount};
 ghost use Rattle.gates.specs.Read.{gateRead};
 ghost use Rattle.gates.specs.Circuit.{numberOf, itemAt, gatesNumber, itemsNumber, circuitNumber};
 ghost use Rattle.gates.specs.Record.{recordNumber};
-ghost use Rattle.circuit_number.specs.Inner.Tested.{testedNumber};
+ghost use Rattle.circuit_number.specs.Inner.Tested.{editionNumber, testedNumber};
 use gates::Reading;
 
 // Item `j` of the bytes, read on so many wires in a dialect, which is the edition of a circuit.
@@ -162,14 +162,26 @@ fn tested(dialect: u8, width: u8, input: u32, output: u32, gates: &[u8]) -> u8
     items_number(dialect, gates, width)
 }
 
+// The number of an edition alone: 9 where there is none such.
+fn edition_number(edition: u8) -> u8
+    ensures { λ r. ⌜ r ≡ editionNumber edition ⌝ }
+{
+    if editions::good_edition(edition) {
+        return 0;
+    }
+    exact::BAD_HEADER
+}
+
 // The number of a circuit of an edition: 9 for the edition, before its own.
 pub fn number(edition: u8, width: u8, input: u32, output: u32, gates: &[u8]) -> u8
     ensures { λ r. ⌜ r ≡ circuitNumber edition width input output (now (gates .entry)) ⌝ }
 {
-    if !editions::good_edition(edition) {
-        return exact::BAD_HEADER;
+    let edition_own = edition_number(edition);
+    let circuit_own = tested(edition, width, input, output, gates);
+    if edition_own != 0 {
+        return edition_own;
     }
-    tested(edition, width, input, output, gates)
+    circuit_own
 }
 
 // The number of a record: as a circuit's, in its own dialect and with one string.

@@ -1,4 +1,4 @@
-// Records read from standard input. For each a line: the chance of the record, then with outcome 0 of a wire behind it, then with outcome 1, each as a power, `none` or a refusal, and whether the two add up to the first. The script
+// Records read from standard input: whole ones, and what of each comes before each of its measurements. For each a line: the chance of the record, then with outcome 0 of a wire behind it, then with outcome 1, each as a power, `none` or a refusal, and whether the two add up to the first. The script
 // tests/try_records.py writes the records, and from plain vectors in whole numbers what must be printed.
 use exact::Chance;
 use exact::Told;
@@ -6,11 +6,11 @@ use exact::Told;
 // More records than any input has.
 const MOST: u64 = 100000;
 // How many bytes a record has: width, wire, count of items, a byte that is not read, input string, the items, and room for a measurement.
-const SIZE: usize = 251;
+const SIZE: usize = 155;
 
 const HEAD: usize = 8;
 
-const MOST_ITEMS: usize = 80;
+const MOST_ITEMS: usize = 48;
 // What stands for a power: none, and from the second number on a refusal.
 const NONE: u64 = 1000000;
 
