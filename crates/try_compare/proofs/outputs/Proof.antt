@@ -5,31 +5,19 @@ use Rattle.try_compare.proofs.outputs.Statement.{statement}
 use Rattle.try_compare.proofs.outputs.Tie as tie
 
 abbrev Inv-loop : tie.InvT-loop
-Inv-loop edition width input gates bytes product n from strings t₀ q₀ t q = q ≤ strings
+Inv-loop edition width input gates strings least₀ most₀ q₀ t10 t11 t12 least most q = q ≤ strings
 
 abbrev μ-loop : tie.MeasureT-loop
-μ-loop edition width input gates bytes product n from strings t₀ q₀ t q = strings - q
+μ-loop edition width input gates strings least₀ most₀ q₀ t10 t11 t12 least most q = strings - q
 
-run-requires : tie.Need-run-requires Inv-loop μ-loop
-run-requires c κs = search needs
+returns : tie.Need-returns Inv-loop μ-loop
+returns c = search needs
 
-roots-requires : tie.Need-roots-requires Inv-loop μ-loop
-roots-requires c κs = search needs
-
-cast-from : tie.Need-cast-from Inv-loop μ-loop
-cast-from c = search needs
-
-place-requires : tie.Need-place-requires Inv-loop μ-loop
-place-requires c κs = search needs
-
-none-requires : tie.Need-none-requires Inv-loop μ-loop
-none-requires c κs = search needs
+shl-strings : tie.Need-shl-strings Inv-loop μ-loop
+shl-strings c = search needs
 
 loop-holds : tie.Need-loop-holds Inv-loop μ-loop
 loop-holds c = search needs
-
-at-requires : tie.Need-at-requires Inv-loop μ-loop
-at-requires c κs = search needs
 
 cast-amplitude : tie.Need-cast-amplitude Inv-loop μ-loop
 cast-amplitude c = search needs
@@ -37,20 +25,8 @@ cast-amplitude c = search needs
 amplitude-requires : tie.Need-amplitude-requires Inv-loop μ-loop
 amplitude-requires c κs = search needs
 
-is-answer-requires : tie.Need-is-answer-requires Inv-loop μ-loop
-is-answer-requires c κs = search needs
-
-zero-requires : tie.Need-zero-requires Inv-loop μ-loop
-zero-requires c κs = search needs
-
-same-requires : tie.Need-same-requires Inv-loop μ-loop
-same-requires c κs = search needs
-
-one-requires : tie.Need-one-requires Inv-loop μ-loop
-one-requires c κs = search needs
-
-plus-requires : tie.Need-plus-requires Inv-loop μ-loop
-plus-requires c κs = search needs
+shown-requires : tie.Need-shown-requires Inv-loop μ-loop
+shown-requires c κs = search needs
 
 add-q : tie.Need-add-q Inv-loop μ-loop
 add-q c = search needs
@@ -61,8 +37,32 @@ loop-less c = search needs
 loop-again : tie.Need-loop-again Inv-loop μ-loop
 loop-again c = search needs
 
-returns : tie.Need-returns Inv-loop μ-loop
-returns c = search needs
+slice-aggregate-write-all : tie.Need-slice-aggregate-write-all Inv-loop μ-loop
+slice-aggregate-write-all c = search needs
+
+write-all-requires : tie.Need-write-all-requires Inv-loop μ-loop
+write-all-requires c κs = search needs
+
+print-decimal-requires : tie.Need-print-decimal-requires Inv-loop μ-loop
+print-decimal-requires c κs = search needs
+
+slice-aggregate-write-all-2 : tie.Need-slice-aggregate-write-all-2 Inv-loop μ-loop
+slice-aggregate-write-all-2 c = search needs
+
+write-all-requires-2 : tie.Need-write-all-requires-2 Inv-loop μ-loop
+write-all-requires-2 c κs = search needs
+
+print-decimal-requires-2 : tie.Need-print-decimal-requires-2 Inv-loop μ-loop
+print-decimal-requires-2 c κs = search needs
+
+slice-aggregate-write-all-3 : tie.Need-slice-aggregate-write-all-3 Inv-loop μ-loop
+slice-aggregate-write-all-3 c = search needs
+
+write-all-requires-3 : tie.Need-write-all-requires-3 Inv-loop μ-loop
+write-all-requires-3 c κs = search needs
+
+returns-2 : tie.Need-returns-2 Inv-loop μ-loop
+returns-2 c = search needs
 
 pub outputs-spec : {M : Type 1} → statement M
 outputs-spec =
@@ -70,21 +70,21 @@ outputs-spec =
     (tie.spec
     Inv-loop
     μ-loop
-    run-requires
-    roots-requires
-    cast-from
-    place-requires
-    none-requires
+    returns
+    shl-strings
     loop-holds
-    at-requires
     cast-amplitude
     amplitude-requires
-    is-answer-requires
-    zero-requires
-    same-requires
-    one-requires
-    plus-requires
+    shown-requires
     add-q
     loop-less
     loop-again
-    returns)
+    slice-aggregate-write-all
+    write-all-requires
+    print-decimal-requires
+    slice-aggregate-write-all-2
+    write-all-requires-2
+    print-decimal-requires-2
+    slice-aggregate-write-all-3
+    write-all-requires-3
+    returns-2)
