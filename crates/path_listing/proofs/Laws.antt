@@ -1,0 +1,4 @@
+pub mod Sofar
+pub mod Short
+pub mod Whole
+pub mod Only
