@@ -17,7 +17,10 @@ fn show(book: &[u8]) {
 // Someone who starts the program at a terminal learns what it waits for.
 fn hint() {
     if libc::isatty(0) == 1 {
-        io::write_all(2, b"paths: reads a book from standard input (paths < FILE)\n");
+        io::write_all(
+            2,
+            b"paths: reads a book from standard input (paths < FILE)\n",
+        );
     }
 }
 
