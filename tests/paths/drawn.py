@@ -43,6 +43,17 @@ def table(rng, width, largest, power=None):
     return TABLE, width, body(0, rng.randrange(8), power, turns, rows, sorted(ties, key=lambda tie: tie[0] & -tie[0]))
 
 
+def joined(rng, width, power):
+    """A table without ties in which about half of all pairs have a sign."""
+    rows = [0] * width
+    for v in range(width):
+        for u in range(v):
+            if rng.getrandbits(1):
+                rows[v] |= 1 << u
+                rows[u] |= 1 << v
+    return TABLE, width, body(0, rng.randrange(8), power, [rng.randrange(4) for _ in rows], rows, [])
+
+
 def zero(width):
     return TABLE, width, body(1, 0, 0, [0] * width, [0] * width, [])
 
