@@ -37,11 +37,13 @@ enum {
     TOPAZFERN_NOT_NORMAL = 12,   /* a table that is not normal */
     TOPAZFERN_ROOM = 13,         /* the area or list is too short for what is to be written, or the start or a stated length is beyond its end */
     TOPAZFERN_NO_BODY = 14,      /* no body of that number */
+    TOPAZFERN_MANY_BITS = 15,    /* more than 20 live bits, where every path is added up */
     TOPAZFERN_BLOCK = 16         /* a block unclosed, empty or unopened, more than 8 deep, or more than 65,536 gates written out */
 };
 
-/* The longest listing. */
+/* The longest listing, and the longest listing of paths. */
 #define TOPAZFERN_LISTING_MAX 312
+#define TOPAZFERN_PATHS_MAX 888
 
 /* The amplitude of a circuit: three bytes for each gate, bit i of a string is wire i. In edition 1 code 7 is H S H, in edition 2 the
  * rotation with rows (1, -i) and (-i, 1) over the square root of two. In edition 2 the bytes 64, n, 0 open a block that is run n
@@ -90,6 +92,17 @@ uint8_t topazfern_read_strict(const uint8_t *book, size_t book_length, size_t j,
 /* The entry of a table body of this width at an assignment, bit v of x for slot v. Refuses 11, 12, then 1. */
 uint8_t topazfern_entry(const uint8_t *body, size_t body_length, uint8_t width, uint64_t x,
                         uint8_t *zero, int32_t *power, uint8_t *phase);
+
+/* Every path of a table body of this width added up, all bits summed, for up to 20 of them: the sum is *c0 + *c1 w + *c2 w^2 + *c3 w^3,
+ * w an eighth turn, times the square root of two to *power, which is the table's own. The four are not reduced.
+ * Refuses 11, 12, then 15. */
+uint8_t topazfern_paths(const uint8_t *body, size_t body_length, uint8_t width,
+                        int32_t *c0, int32_t *c1, int32_t *c2, int32_t *c3, int32_t *power);
+
+/* The listing of a book's paths at the front of text, all or nothing: for each table its number, the four numbers and the power, then what
+ * is left when its bits are summed away one by one in rising order, power and phase or `zero`; either half may read `refused` and a number
+ * (15; 5 at the first step that leaves the range of powers). Answers its length, at most 888; bytes beyond text_length are dropped. */
+size_t topazfern_paths_listing(const uint8_t *book, size_t book_length, uint8_t *text, size_t text_length);
 
 /* Header and contents of a book of an edition (1 or 2) at the front of area, from three lists: kinds, widths, lengths of bodies.
  * Refuses 9, 10, 13. */

@@ -1,4 +1,4 @@
-/* Topazfern from C: an amplitude, the chance of a record, a listing, a book that is put together, read back and edited where it stands, and the closing gate of a one-wire run. */
+/* Topazfern from C: an amplitude, the chance of a record, the paths of a table, a listing, a book that is put together, read back and edited where it stands, and the closing gate of a one-wire run. */
 #include <stdio.h>
 #include <string.h>
 
@@ -94,6 +94,16 @@ static void entries(void)
     }
 }
 
+/* Its two paths, 01 with i and 10 with 1, added up; and a body that is cut short. */
+static void paths(void)
+{
+    int32_t c0, c1, c2, c3, power;
+
+    if (!topazfern_paths(tied, sizeof tied, 2, &c0, &c1, &c2, &c3, &power))
+        printf("every path: %d %d %d %d, power %d\n", c0, c1, c2, c3, power);
+    printf("a body cut short: refused %d\n", topazfern_paths(tied, sizeof tied - 1, 2, &c0, &c1, &c2, &c3, &power));
+}
+
 /* A book of the circuit (two strings and its gates) and the table. */
 static size_t build(uint8_t *book, size_t room)
 {
@@ -185,16 +195,18 @@ static void tableaux(void)
 
 int main(void)
 {
-    uint8_t book[100], text[TOPAZFERN_LISTING_MAX], kind, zero, phase, refused;
+    uint8_t book[100], text[TOPAZFERN_LISTING_MAX], added[TOPAZFERN_PATHS_MAX], kind, zero, phase, refused;
     size_t length, live, ties;
     int32_t power;
 
     amplitudes();
     chances();
     entries();
+    paths();
     length = build(book, sizeof book);
     printf("a book of %zu bytes\n", length);
     fwrite(text, 1, topazfern_listing(book, length, text, sizeof text), stdout);
+    fwrite(added, 1, topazfern_paths_listing(book, length, added, sizeof added), stdout);
     for (size_t j = 0; j < 3; j++) {
         refused = topazfern_read(book, length, j, &kind, &live, &ties, &zero, &power, &phase);
         if (refused)

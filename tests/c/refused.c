@@ -65,6 +65,24 @@ static void amounts(void)
     expect("amounts unchanged", zero == 200 && power == -7 && phase == 201 && kind == 202 && live == 77 && ties == 78);
 }
 
+/* A table of 21 bits, and one of 20. */
+static uint8_t wide[5 + 9 * 21];
+
+static void paths(void)
+{
+    int32_t c0 = 41, c1 = 42, c2 = 43, c3 = 44, power = -7;
+    uint8_t text[4] = {1, 2, 3, 4};
+
+    expect("paths of a body too short", topazfern_paths(sound, 13, 1, &c0, &c1, &c2, &c3, &power) == 11);
+    expect("paths of an empty tie", topazfern_paths(empty_tie, sizeof empty_tie, 1, &c0, &c1, &c2, &c3, &power) == 12);
+    expect("paths of 21 bits", topazfern_paths(wide, sizeof wide, 21, &c0, &c1, &c2, &c3, &power) == TOPAZFERN_MANY_BITS);
+    expect("paths unchanged", c0 == 41 && c1 == 42 && c2 == 43 && c3 == 44 && power == -7);
+    expect("paths of 20 bits", topazfern_paths(wide, sizeof wide - 9, 20, &c0, &c1, &c2, &c3, &power) == 0);
+    expect("a million paths", c0 == 1 << 20 && c1 == 0 && c2 == 0 && c3 == 0 && power == 0);
+    expect("a listing of paths, all or nothing", topazfern_paths_listing(half_bad, sizeof half_bad, text, 3) == 10);
+    expect("its front alone", text[0] == 'r' && text[1] == 'e' && text[2] == 'f' && text[3] == 4);
+}
+
 /* H on wire 0, CX from 0 to 1, both measured as 1; the same with wire 1 as 0; 255 times H and an outcome 0. */
 static const uint8_t alike[] = {1, 0, 0, 17, 0, 1, 80, 0, 1, 80, 1, 1};
 static const uint8_t unlike[] = {1, 0, 0, 17, 0, 1, 80, 0, 1, 80, 1, 0};
@@ -147,6 +165,7 @@ int main(void)
 {
     bodies();
     amounts();
+    paths();
     chances();
     records_in_books();
     areas();

@@ -19,7 +19,7 @@ pub fn book_line(area: &mut [u8], at: usize, count: u8) -> usize
 }
 
 // An amount: `zero`, or its power and its phase.
-fn put_amount(area: &mut [u8], at: usize, a: exact::Amount) -> usize
+pub fn put_amount(area: &mut [u8], at: usize, a: exact::Amount) -> usize
     ensures { λ r. ⌜ TextLaid (now (area .entry)) at (amountText a) (now (area .exit)) r ⌝ }
 {
     match a {

@@ -6,7 +6,9 @@ ghost use Rattle.contents_lay.specs.Lay.{ContentsLaid};
 ghost use Rattle.edit_numbers.specs.Volume.{remove, replace, add};
 ghost use Rattle.edit.specs.Edit.{Edits};
 ghost use Rattle.listing.specs.Listing.{Listed, ListedStrict};
+ghost use Rattle.path_listing.specs.Listing.{PathsListed};
 ghost use Rattle.told.specs.Told.{behind, odds, six};
+ghost use Rattle.told_paths.specs.Told.{five, PathsTold};
 ghost use Rattle.topazfern.specs.Calls.{AmplitudeTold, RecordTold, EntryTold, WriteTold, ReadTold, StrictReadTold};
 
 // The amplitude of a circuit of an edition.
@@ -114,6 +116,30 @@ pub extern "C" fn topazfern_entry(
     let t = r.table;
     let a = call_asking::entry(t, x);
     told::answer(a, zero, power, phase)
+}
+
+// Every path of a table body added up: four whole numbers and the table's own power.
+#[no_mangle]
+pub extern "C" fn topazfern_paths(
+    body: &[u8],
+    width: u8,
+    c0: &mut i32,
+    c1: &mut i32,
+    c2: &mut i32,
+    c3: &mut i32,
+    power: &mut i32,
+) -> u8
+    ensures { λ n. ⌜ PathsTold width (now (body .entry)) (five (now (c0 .entry)) (now (c1 .entry)) (now (c2 .entry)) (now (c3 .entry)) (now (power .entry))) n (five (now (c0 .exit)) (now (c1 .exit)) (now (c2 .exit)) (now (c3 .exit)) (now (power .exit))) ⌝ }
+{
+    told_paths::paths(body, width, c0, c1, c2, c3, power)
+}
+
+// The listing of the paths of a book, all or nothing. Answers its length, at most 888; what lies beyond the area's end is dropped.
+#[no_mangle]
+pub extern "C" fn topazfern_paths_listing(book: &[u8], text: &mut [u8]) -> usize
+    ensures { λ r. ⌜ PathsListed (now (book .entry)) (now (text .entry)) (now (text .exit)) r ⌝ }
+{
+    path_listing::list(book, text)
 }
 
 // Header and contents of a book of an edition at the front of an area, from three lists.

@@ -31,7 +31,7 @@ unfolding signedText letters
 signed (pos n) h = omega (arith, four n (omega arith))
 signed (negsuc n) h = omega (arith, four (suc n) (omega arith))
 
-amount : (a : Amount) → InRange a → length (amountText a) ≤ 7
+pub amount : (a : Amount) → InRange a → length (amountText a) ≤ 7
 unfolding amountText letters
 amount Zero h = omega arith
 amount (Some s c) h = simp length-append (omega (arith, signed (s .0) (h .0), one (c .0) (omega arith)))

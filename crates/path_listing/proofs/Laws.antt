@@ -1,0 +1,5 @@
+pub mod Sofar
+pub mod Short
+pub mod Whole
+pub mod Only
+pub mod Fits
