@@ -1,47 +1,4 @@
 // Reads a book from standard input to its end and writes its listing to standard output.
-ghost use Prim.Native.Nat.{_≤_};
-ghost use mathlib.Core.Path.{_≡_};
-ghost use lib.ListN.{length, take};
-
-// What was read: how many bytes, and whether the input ended or filled the area (a read that failed did neither).
-struct Input {
-    bytes: usize,
-    whole: bool,
-}
-
-// Reads once, into the front of a part.
-fn more(part: &mut [u8]) -> Input
-    ensures { λ r. ⌜ (r .bytes ≤ length (now (part .exit))) × (length (now (part .exit)) ≡ length (now (part .entry))) ⌝ }
-{
-    let got = libc::read(0, part);
-    let n = io::count(got, part);
-    Input {
-        bytes: n,
-        whole: got >= 0,
-    }
-}
-
-// Reads until the input ends, the area is full or a read fails.
-fn fill(area: &mut [u8]) -> Input
-    ensures { λ r. ⌜ (r .bytes ≤ length (now (area .exit))) × (r .bytes ≡ length (take (r .bytes) (now (area .exit)))) ⌝ }
-{
-    let mut n = 0usize;
-    while n < area.len() {
-        let got = more(&mut area[n..]);
-        let bytes = got.bytes;
-        if bytes == 0 {
-            return Input {
-                bytes: n,
-                whole: got.whole,
-            };
-        }
-        n += bytes;
-    }
-    Input {
-        bytes: n,
-        whole: true,
-    }
-}
 
 // A write that failed is told on standard error, as a read is.
 fn said(written: bool) {
@@ -68,9 +25,9 @@ fn hint() {
 fn main() {
     hint();
     let mut area = [0u8; 60001];
-    let input = fill(&mut area);
-    let n = input.bytes;
-    if input.whole {
+    let read = input::fill(&mut area);
+    let n = read.bytes;
+    if read.whole {
         show(&area[..n]);
     } else {
         io::write_all(2, b"amps: standard input cannot be read\n");

@@ -7,8 +7,8 @@ use Prim.Native.Nat.{ℕ, _+_, _≤_, _-_}
 use lib.ListN.{length, take}
 use lib.Seq.{length-take-le}
 use borrow.Rule.Slice.PartMut.{midOf, putMid, same-len-mid, mid-len}
-use Rattle.amps.proofs.fill.Statement.{statement}
-use Rattle.amps.proofs.fill.Tie as tie
+use Rattle.input.proofs.fill.Statement.{statement}
+use Rattle.input.proofs.fill.Tie as tie
 
 -- the area keeps its length when a part of it is given back
 kept : (n : ℕ) (xs ys : List ℕ) → length ys ≡ length (midOf n (length xs - n) xs) → length (putMid n (length xs - n) xs ys) ≡ length xs
