@@ -20,7 +20,7 @@ from words import WORD, word
 
 CALLS = ["new_bit", "turn", "scale", "tie", "sum", "fix", "join"]
 ENTRY, COPY, LOOK = 7, 8, 9
-ZERO, POWER, LIVE, PHASE, TURN, ROW, COUNT, TIE = range(10, 18)
+ZERO, POWER, LIVE, PHASE, TURN, ROW, COUNT, TIE, LABEL = range(10, 19)
 FIRST, SECOND, BASE, BESIDE, SPOILT, FULL, FRESH = 0, 1, 2, 3, 4, 6, 7  # what the eight tables are used for
 
 records, lines = [], []
@@ -58,7 +58,7 @@ def called(i, j, call):
         number, place, small = given
     elif name == "scale" or name == "tie" or name == "fix":
         number, small = given
-    elif name == "sum":
+    elif name == "sum" or name == "new_bit":
         (number,) = given
     record(CALLS.index(name), i, j, small, place, number)
     tables[i] = after
@@ -66,7 +66,7 @@ def called(i, j, call):
     kept, tidy = (1, 0) if after.spoilt else (int(after.same(before)), 1)
     h = entries(word(0, after.live()), after, looks[i], len(records) - 1)
     beside = [slot] if name == "new_bit" else [placed(places)] if name == "join" else [case(n, before, after, *given)] * 2 if name == "sum" else []
-    lines.append(" ".join(map(str, [n, *beside, spread, kept, tidy, f"{h % 2**32:08x}"])))
+    lines.append(" ".join(map(str, [n, *beside, spread, kept, tidy, labels(after), f"{h % 2**32:08x}"])))
 
 
 def asked(i, x):
@@ -91,6 +91,13 @@ def placed(places):
     h = 0
     for v in places:
         h = word(h, v)
+    return h % 2**32
+
+
+def labels(t):
+    h = 0
+    for v in range(64):
+        h = word(h, t.labels.get(v, 0))
     return h % 2**32
 
 
@@ -178,6 +185,25 @@ def pair(draw, t):
     return u, v, k if draw(12) % 4 == 0 or k > 3 else k // 2 * 2
 
 
+handed = 0  # how many labels were given out
+
+
+def new():
+    """A new bit with a label that no bit had: 7 has no factor 2."""
+    global handed
+    handed += 1
+    return ("new_bit", 7 * handed % 2**16)
+
+
+def named(draw, t):
+    """A new bit: now and then with a label that is in use, with the first or the last there is, or with any at all."""
+    w = draw(14)
+    r = w // 16
+    if w % 16 <= 1 and t.labels:
+        return ("new_bit", sorted(t.labels.values())[r % len(t.labels)])
+    return ("new_bit", [0, 2**16 - 1, r % 2**16][w % 16 - 2]) if 2 <= w % 16 <= 4 else new()
+
+
 def of_kind(name, draw, t):
     """A call by its name, with what it is given."""
     if name == "turn":
@@ -190,7 +216,7 @@ def of_kind(name, draw, t):
         return (name, slot(draw(2), t))
     if name == "fix":
         return (name, slot(draw(2), t), small(draw(3), 2))
-    return (name,)
+    return named(draw, t) if name == "new_bit" else (name,)
 
 
 def drawn(draw, t, other, limit):
@@ -198,7 +224,7 @@ def drawn(draw, t, other, limit):
     used = len(t.slots)
     kind = 0 if used < 3 and draw(7) % 2 == 0 else draw(1) % 32
     if kind <= 9 and (t.count() == 64 or used < limit):
-        return ("new_bit",)
+        return named(draw, t)
     if kind >= 30 and (t.count() + other.count() > 64 or used + len(other.slots) <= 10):
         return ("join",)
     for top, name in [(9, "sum"), (19, "turn"), (21, "scale"), (24, "tie"), (27, "sum"), (29, "fix"), (31, "sum")]:
@@ -217,6 +243,11 @@ def fault_of_field(fault, v, t):
         6: (ROW, 0, v, 1 << v), 7: (ROW, 0, v, 1 << (v + 1) % 64), 8: (TIE, 0, 63, 1), 9: (TIE, 1, 63, 0), 10: (COUNT, 0, 0, ties + 1),
         11: (COUNT, 0, 0, 65),
     }[fault]
+
+
+def fault_of_label(fault, u, v, w, t):
+    """A free slot with a label, or two live bits with one."""
+    return {26: (LABEL, 0, w, 5), 27: (LABEL, 0, v, t.labels[u])}[fault]
 
 
 def fault_of_shape(fault, u, v, w):
@@ -247,13 +278,20 @@ def spoil(i, fault):
     if fault <= 11:
         copied(SPOILT, i)
         faults = [fault_of_field(fault, v, t)]
+    elif fault >= 26:
+        copied(SPOILT, i)
+        faults = [fault_of_label(fault, u, v, t.free(), t)]
     else:
         copied(SPOILT, FRESH)
-        faults = [(LIVE, 0, 0, t.live())] + fault_of_shape(fault, u, v, t.free())
+        faults = [(LIVE, 0, 0, t.live())] + [(LABEL, 0, s, s) for s in bits(t.live())] + fault_of_shape(fault, u, v, t.free())
     tables[SPOILT] = t.copy()
+    if 12 <= fault <= 25:
+        tables[SPOILT].labels = {s: s for s in bits(t.live())}
     tables[SPOILT].spoilt = True
     for code, small_number, place, number in faults:
         record(code, SPOILT, 0, small_number, place, number)
+        if code == LABEL:
+            tables[SPOILT].labels[place] = number
 
 
 def spoilt_calls(draw, i, fault):
@@ -276,7 +314,7 @@ def filled():
     """Table FULL gets all 64 slots, and is refused one more."""
     tables[FULL].basing = True
     for _ in range(65):
-        called(FULL, FRESH, ("new_bit",))
+        called(FULL, FRESH, new())
 
 
 def based(i, base):
@@ -291,7 +329,7 @@ def based(i, base):
 
 LIMITS = [6, 6, 10, 6, 4, 10, 10, 6]
 BASES = [0, 2**58 - 1, WORD ^ sum(1 << v for v in range(0, 64, 7)), 0, 0, 2**54 - 1, 0, WORD ^ 63]
-FAULTS = 25
+FAULTS = 27
 tried = set()
 
 
@@ -313,7 +351,11 @@ def history(stream):
             begun(side, kind)
         if c % 8 == 3:
             asked(side, assignment(draw, tables[side]))
-        called(side, 1 - side, drawn(draw, tables[side], tables[1 - side], [LIMITS[kind], 4][side]))
+        call = drawn(draw, tables[side], tables[1 - side], [LIMITS[kind], 4][side])
+        if call == ("join",) and draw(15) % 4 and set(tables[0].labels.values()) & set(tables[1].labels.values()):
+            begun(1 - side, kind)
+            do(1 - side, side, new(), new(), ("turn", 0, 0, draw(16) % 4))
+        called(side, 1 - side, call)
         if c % 33 == 32:
             spoilt_calls(draw, side, 1 + (3 * stream + c // 33) % FAULTS)
 
@@ -346,7 +388,7 @@ def powers(b):
     for a, near in enumerate(NEAR):
         copied(FIRST, base)
         do(FIRST, SECOND, ("scale", near, 0), ("scale", FAR[b], 1), ("join",))
-        do(FIRST, SECOND, ("new_bit",), ("turn", v, v, (2 * a + b) % 4), ("sum", v))
+        do(FIRST, SECOND, new(), ("turn", v, v, (2 * a + b) % 4), ("sum", v))
     do(FIRST, SECOND, ("tie", 0, 1), ("scale", FAR[b], 1), ("join",))
 
 
@@ -355,7 +397,7 @@ def last_sums():
     for s in (-2000, 1997, 1998, 1999, 2000):
         for k in range(4):
             copied(FIRST, FRESH)
-            do(FIRST, FRESH, ("scale", s, 0), ("new_bit",), ("turn", 0, 0, k), ("sum", 0))
+            do(FIRST, FRESH, ("scale", s, 0), new(), ("turn", 0, 0, k), ("sum", 0))
 
 
 def last_slots():
@@ -363,21 +405,35 @@ def last_slots():
     for more in (2, 3, 4):
         copied(FIRST, BASE)
         copied(SECOND, FRESH)
-        do(SECOND, FRESH, *[("new_bit",)] * more, ("turn", 1, 1, 1), ("turn", 0, 1, 2), ("scale", 2000, 3))
-        do(FIRST, SECOND, ("join",), ("new_bit",), ("new_bit",), ("scale", 2000, 0), ("join",))
+        do(SECOND, FRESH, *[new() for _ in range(more)], ("turn", 1, 1, 1), ("turn", 0, 1, 2), ("scale", 2000, 3))
+        do(FIRST, SECOND, ("join",), new(), new(), ("scale", 2000, 0), ("join",))
         copied(FIRST, BASE)
-        do(SECOND, FIRST, ("join",), ("new_bit",), ("new_bit",))
+        do(SECOND, FIRST, ("join",), new(), new())
 
 
 def orders():
     """Calls with two faults: the first in the order 3, 1, 4, 5 is told; and the edges of a turn, on a zero table at last."""
     copied(FIRST, FRESH)
-    do(FIRST, FRESH, ("new_bit",), ("new_bit",), ("scale", 2000, 0))
+    do(FIRST, FRESH, new(), new(), ("scale", 2000, 0))
     do(FIRST, FRESH, ("turn", 2, 2, 4), ("fix", 64, 2), ("tie", 4, 2), ("turn", 2, 3, 1), ("turn", 1, 70, 3), ("turn", 70, 70, 1), ("scale", 1, 8), ("tie", 0, 0))
     do(FIRST, FRESH, *[("turn", u, v, k) for u, v in ((0, 0), (0, 1), (1, 0), (0, 2), (2, 0), (2, 2)) for k in range(5)])
     do(FIRST, FRESH, ("turn", 2**64 - 1, 255, 0), ("turn", 2**64 - 1, 255, 1), ("turn", 64, 64, 3), ("turn", 64, 64, 4))
     do(FIRST, FRESH, ("sum", 2**64 - 1), ("sum", 0), ("turn", 0, 0, 1), ("sum", 0), ("turn", 0, 0, 1), ("sum", 0), ("tie", 3, 1))
     do(FIRST, FRESH, ("tie", 0, 1), ("turn", 0, 0, 1), ("turn", 0, 1, 2), ("turn", 0, 1, 1), ("turn", 0, 2, 2))
+
+
+def named_calls():
+    """Labels by plan: in use, given out again, the first and the last; 4 before 17, and 17 before 5, also where a side is zero."""
+    copied(FIRST, FRESH)
+    do(FIRST, FRESH, ("new_bit", 7), ("new_bit", 7), ("sum", 0), ("new_bit", 7), ("new_bit", 0), ("new_bit", 0), ("new_bit", 65535), ("new_bit", 65535))
+    do(FIRST, FRESH, ("fix", 1, 0), ("new_bit", 0), ("tie", 5, 1), ("turn", 0, 0, 1), ("sum", 2), ("new_bit", 1))
+    copied(SECOND, FRESH)
+    do(SECOND, FRESH, ("new_bit", 2), ("new_bit", 7), ("scale", 2000, 0))
+    do(FIRST, SECOND, ("scale", 2000, 0), ("join",), ("sum", 0), ("join",), ("scale", -4000, 0), ("join",), ("join",))
+    do(FIRST, SECOND, ("tie", 0, 1), ("join",), ("new_bit", 2), ("new_bit", 3))
+    do(SECOND, FIRST, ("sum", 0), ("sum", 1), ("new_bit", 9), ("join",), ("join",))
+    copied(SECOND, FULL)
+    do(SECOND, FULL, ("new_bit", 7), ("join",), ("fix", 5, 1), ("new_bit", 7), ("new_bit", 42))
 
 
 def plans():
@@ -388,6 +444,7 @@ def plans():
     last_sums()
     last_slots()
     orders()
+    named_calls()
 
 
 filled()

@@ -1,0 +1,4 @@
+pub mod Pair
+pub mod Answer
+pub mod OnePhase
+pub mod Only
