@@ -1,7 +1,7 @@
 -- An answer that keeps its promise, told: case by case of the answer.
 use mathlib.Core.List.{List}
 use mathlib.Core.Path.{_≡_, refl, sym, _∙_, subst}
-use Prim.Native.Nat.{ℕ, _<_}
+use Prim.Native.Nat.{ℕ}
 use native.Mathlib.Omega.{arith}
 use Rattle.tableau.specs.declared.Verdict.{Verdict}
 use Rattle.tableau.specs.declared.Verdict.the-variants.{Refused, Yes, No}
