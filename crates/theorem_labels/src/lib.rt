@@ -1,0 +1,1 @@
+// Round trips of tables with labels: no code.
