@@ -17,7 +17,11 @@ Self = TypeVar("Self", bound="Items")
 
 
 def byte(value: int, name: str) -> int:
-    """A number that has to fit into a byte of a body; everything else is for the library to refuse."""
+    """A number that has to fit into a byte of a body; everything else is for the library to refuse.
+
+    >>> byte(255, "wire")
+    255
+    """
     if not 0 <= value <= 255:
         raise ValueError(f"{name} {value} does not fit into a byte")
     return value

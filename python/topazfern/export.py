@@ -120,7 +120,7 @@ class Writer:
             for _ in range(op.count):
                 self.ops(op.ops, depth)
             return
-        self._line(depth, f"REPEAT {op.count} {{" if self.format == "stim" else f"for uint i in [1:{op.count}] {{")
+        self._line(depth, f"REPEAT {op.count} {{" if self.format == "stim" else f"for uint i{depth} in [1:{op.count}] {{")
         self.ops(op.ops, depth + 1)
         self._line(depth, "}")
 

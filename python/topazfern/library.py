@@ -78,7 +78,11 @@ _loaded: Optional[Library] = None
 
 
 def find() -> Optional[str]:
-    """The file that would be loaded by the rule above, or None where the system has to look."""
+    """The file that would be loaded by the rule above, or None where the system has to look.
+
+    >>> find() in (None, os.environ.get(VARIABLE), str(BESIDE))
+    True
+    """
     named = os.environ.get(VARIABLE)
     if named:
         return named
@@ -102,7 +106,12 @@ def load() -> Library:
 
 
 def ask(name: str, *given: Any, place: str = "") -> None:
-    """Makes a call that answers a number of refusal, and raises it where it is not 0."""
+    """Makes a call that answers a number of refusal, and raises it where it is not 0.
+
+    >>> ask("topazfern_inverse", 24, ctypes.byref(c_uint8()))
+    Traceback (most recent call last):
+    topazfern.refusals.Refused: refused 3: a number is out of range: the second byte of a one-wire gate is not 0, an outcome is neither 0 nor 1, a block's count is 0, a mark has a stray byte, or a one-wire element is above 23
+    """
     taken(load().call(name)(*given), place)
 
 
@@ -152,15 +161,29 @@ class Told:
 
     @property
     def pointers(self) -> Tuple[Any, Any, Any]:
+        """What a call writes through.
+
+        >>> len(Told().pointers)
+        3
+        """
         return ctypes.byref(self.zero), ctypes.byref(self.power), ctypes.byref(self.phase)
 
     @property
     def amount(self) -> Amount:
+        """What was written.
+
+        >>> print(Told().amount)
+        0 0
+        """
         return Amount(bool(self.zero.value), self.power.value, self.phase.value)
 
 
 def element(name: str, *given: Any) -> int:
-    """A call that answers a one-wire element."""
+    """A call that answers a one-wire element.
+
+    >>> element("topazfern_product", 1, 2)
+    3
+    """
     told = c_uint8()
     ask(name, *given, ctypes.byref(told))
     return told.value
