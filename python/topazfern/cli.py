@@ -179,7 +179,7 @@ def make(args: argparse.Namespace) -> int:
     editions = {edition for edition, _ in parts}
     if len(editions) > 1:
         raise Trouble("files of different editions do not go into one book")
-    if args.out in args.files:
+    if args.out != "-" and args.out in args.files:
         raise Trouble(f"{args.out}: would be written over the file that it is made of")
     books = packed([body for _, bodies in parts for body in bodies], args.split)
     status = FINE
@@ -261,21 +261,21 @@ def in_words(line: str) -> str:
 
 def along(paths: Sequence[str], jobs: int, strict: bool) -> Iterator[Listed]:
     """The parts in the order of the files, however many are worked on at a time; the library runs outside Python's lock."""
-    if jobs == 1:
+    if jobs == 1 or len(paths) == 1:
         for path in paths:
             yield listed(path, strict)
         return
-    with ThreadPoolExecutor(jobs) as pool:
-        waiting: Deque = deque()
-        try:
-            for path in paths:
-                waiting.append(pool.submit(listed, path, strict))
-                if len(waiting) > 8 * jobs:
-                    yield waiting.popleft().result()
-            while waiting:
+    pool = ThreadPoolExecutor(jobs)
+    waiting: Deque = deque()
+    try:
+        for path in paths:
+            waiting.append(pool.submit(listed, path, strict))
+            if len(waiting) > 8 * jobs:
                 yield waiting.popleft().result()
-        finally:
-            pool.shutdown(wait=False, cancel_futures=True)
+        while waiting:
+            yield waiting.popleft().result()
+    finally:
+        pool.shutdown(wait=False, cancel_futures=True)  # a book that never comes holds up nobody who stops the list
 
 
 def list_books(args: argparse.Namespace) -> int:
@@ -463,6 +463,7 @@ def ready() -> None:
 
 
 def fails(words: object) -> int:
+    """An error, told after what was printed before it."""
     sys.stdout.flush()
     print(f"topaz: {words}", file=sys.stderr)
     return TROUBLE
@@ -472,9 +473,10 @@ def main(argv: Optional[Sequence[str]] = None) -> int:
     """Runs the command and answers its exit status."""
     if hasattr(signal, "SIGPIPE"):
         signal.signal(signal.SIGPIPE, signal.SIG_DFL)  # a closed pipe ends it, as it ends other commands
+    if sys.stdout is None or sys.stderr is None:
+        return TROUBLE  # no place to write to, and none to say so
     for stream in (sys.stdout, sys.stderr):
-        if stream is not None:
-            stream.reconfigure(errors="surrogateescape")  # names of files are printed as they are
+        stream.reconfigure(errors="surrogateescape")  # names of files are printed as they are
     args = parser().parse_args(argv)
     try:
         ready()
@@ -486,8 +488,8 @@ def main(argv: Optional[Sequence[str]] = None) -> int:
     except Refused as refusal:
         return fails(f"{getattr(args, 'file', None) or getattr(args, 'circuit', None) or args.files[0]}: {refusal}")
     except KeyboardInterrupt:
-        print("\ntopaz: stopped", file=sys.stderr)
-        return STOPPED
+        print("\ntopaz: stopped", file=sys.stderr, flush=True)
+        os._exit(STOPPED)  # whatever a thread still waits for
     except OSError as error:
         print(f"topaz: {error.filename or 'standard output'}: {error.strerror}", file=sys.stderr)
         os.dup2(os.open(os.devnull, os.O_WRONLY), 1)  # what is left in the buffer has no place to go

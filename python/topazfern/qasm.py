@@ -35,7 +35,7 @@ FUNCTIONS = {"sin": math.sin, "cos": math.cos, "tan": math.tan, "exp": math.exp,
 #: Statements that begin with a word, each read by the method of that name.
 STATEMENTS = ("OPENQASM", "include", "qreg", "creg", "qubit", "bit", "const", "barrier", "reset", "measure", "for", "gate")
 ONLY_3 = ("qubit", "bit", "for", "const", "inv", "ctrl", "negctrl", "pow", "gphase", "let", "def")
-MOST_CALLS = 1_000_000
+MOST_CALLS = 200_000
 Value = Callable[[Dict[str, Any]], Any]
 
 
@@ -637,7 +637,7 @@ class Reader:
         on = [wires[operand] for operand in call.operands]
         self.calls += 1
         if self.calls > MOST_CALLS:
-            self.bad("gates that call gates more than a million times")
+            self.bad(f"gates that call gates more than {MOST_CALLS} times")
         if len(set(on)) != len(on):
             self.bad("names the same qubit twice", call.what, call.line)
         name, changes = call.name, list(call.changes)
