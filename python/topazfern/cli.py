@@ -462,11 +462,13 @@ def ready() -> None:
         raise Trouble("the library could not be made; the lines above say why")
 
 
-def fails(words: object) -> int:
-    """An error, told after what was printed before it."""
-    sys.stdout.flush()
-    print(f"topaz: {words}", file=sys.stderr)
-    return TROUBLE
+def done(args: argparse.Namespace) -> int:
+    """Runs a command; a refusal that nothing else tells is told with the file."""
+    try:
+        return args.does(args)
+    except Refused as refusal:
+        path = getattr(args, "file", None) or getattr(args, "circuit", None) or args.files[0]
+        raise Trouble(f"{path}: {refusal}") from None
 
 
 def main(argv: Optional[Sequence[str]] = None) -> int:
@@ -477,16 +479,16 @@ def main(argv: Optional[Sequence[str]] = None) -> int:
         return TROUBLE  # no place to write to, and none to say so
     for stream in (sys.stdout, sys.stderr):
         stream.reconfigure(errors="surrogateescape")  # names of files are printed as they are
-    args = parser().parse_args(argv)
     try:
+        args = parser().parse_args(argv)
         ready()
-        status = args.does(args)
+        status = done(args)
         sys.stdout.flush()
         return status
     except (Trouble, CannotRead, Missing, NoLibrary) as trouble:
-        return fails(trouble)
-    except Refused as refusal:
-        return fails(f"{getattr(args, 'file', None) or getattr(args, 'circuit', None) or args.files[0]}: {refusal}")
+        sys.stdout.flush()
+        print(f"topaz: {trouble}", file=sys.stderr)
+        return TROUBLE
     except KeyboardInterrupt:
         print("\ntopaz: stopped", file=sys.stderr, flush=True)
         os._exit(STOPPED)  # whatever a thread still waits for
