@@ -9,7 +9,7 @@ import sys
 from collections import deque
 from concurrent.futures import ThreadPoolExecutor
 from pathlib import Path
-from typing import Deque, Iterator, List, NamedTuple, NoReturn, Optional, Sequence, Tuple
+from typing import Callable, Deque, Iterator, List, NamedTuple, NoReturn, Optional, Sequence, Tuple
 
 from . import __version__, chart, counts, export, qasm, stim, text, why
 from . import gates as g
@@ -392,6 +392,7 @@ def positive(word: str) -> int:
 
 
 FORMAT = {"choices": ["qasm", "stim", "book", "text"], "help": "what the file is, where its name and first line do not say it"}
+Does = Callable[[argparse.Namespace], int]
 BODY = {"type": int, "metavar": "J", "help": "body J of a book, from 0 on"}
 INPUT = {"metavar": "STRING", "help": "the input string, wire 0 last (default: all 0)"}
 FIRST = {"choices": ["left", "right"], "help": "where the first bit of an output stands (default: right; left for Stim and for records)"}
@@ -402,11 +403,18 @@ def parser() -> argparse.ArgumentParser:
     main.add_argument("--version", action="version", version=f"topaz {__version__}")
     commands = main.add_subparsers(metavar="COMMAND", required=True, dest="command")
 
-    def command(name: str, does, words: str) -> argparse.ArgumentParser:
+    def command(name: str, does: Does, words: str) -> argparse.ArgumentParser:
         added = commands.add_parser(name, help=words, description=words[0].upper() + words[1:] + ".", epilog=STATUS)
         added.set_defaults(does=does)
         return added
 
+    book_commands(command)
+    chance_commands(command)
+    return main
+
+
+def book_commands(command: Callable[[str, Does, str], argparse.ArgumentParser]) -> None:
+    """make, show, list and why."""
     add = command("make", make, "a book from OpenQASM 2 or 3, Stim, or the text of topaz show")
     add.add_argument("files", nargs="+", metavar="FILE", help="circuits; - is standard input")
     add.add_argument("--out", required=True, metavar="BOOK", help="the book to write; - is standard output")
@@ -430,6 +438,9 @@ def parser() -> argparse.ArgumentParser:
     add = command("why", explain, "why books and bodies are refused, and where")
     add.add_argument("files", nargs="+", metavar="BOOK")
 
+
+def chance_commands(command: Callable[[str, Does, str], argparse.ArgumentParser]) -> None:
+    """chances and compare."""
     add = command("chances", chances, "the chances of all outputs of a circuit or record")
     add.add_argument("file", metavar="FILE", help="a book, OpenQASM or Stim")
     add.add_argument("--all", action="store_true", help="also the outputs that cannot occur, up to 16 bits")
@@ -447,7 +458,6 @@ def parser() -> argparse.ArgumentParser:
         one.add_argument("--body", **BODY)
         one.add_argument("--format", **FORMAT)
         one.add_argument("--first", **FIRST)
-    return main
 
 
 def ready() -> None:

@@ -3,7 +3,6 @@ import random
 import unittest
 
 import common
-import model
 from topazfern import Book, Circuit, Record, export, qasm, stim
 from topazfern.book import Body
 

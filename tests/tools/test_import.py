@@ -150,7 +150,7 @@ class Refused(unittest.TestCase):
         ]]
         cases += [(three + "h $0;", "f: line 3: qubit[4] q: hardware qubits and declared ones in one file"), ("OPENQASM 2.0; qubit q; h q;", "OpenQASM 2 has no qubit"), ("OPENQASM 4; qubit q;", "OpenQASM 2 and 3 are read"), ("OPENQASM 3;", "no qubits are declared"),
                   ("", "no qubits are declared"), (two + "opaque g a;", "a gate without a body"), (two + "OPENQASM 2.0;", "the version must stand first"),
-                  (head(3, 1) + "".join(f"gate g{n} a {{ {f'g{n - 1}' if n else 'x'} a; {f'g{n - 1}' if n else 'x'} a; }} " for n in range(40)) + "g39 q[0];", "more than 65536 gates"),
+                  (head(3, 1) + "gate g0 a { " + "x a; " * 300 + "} " + "".join(f"gate g{n} a {{ g{n - 1} a; g{n - 1} a; }} " for n in range(1, 40)) + "g39 q[0];", "more than 65536 gates"),
                   (head(3, 1) + "gate g0 a { } " + "".join(f"gate g{n} a {{ g{n - 1} a; g{n - 1} a; }} " for n in range(1, 40)) + "g39 q[0];", "more than 200000 times"),
                   (head(3, 1) + "x q[" + "(" * 5000 + "0" + ")" * 5000 + "];", "nested too deeply")]
         self.refused(cases, qasm)
