@@ -86,14 +86,14 @@ def plotted(path: str, title: str, rows: Sequence[Tuple[str, float, float]]) -> 
     from matplotlib import pyplot
 
     kept = rows[:MOST_BARS]
-    figure, axes = pyplot.subplots(figsize=(max(4.0, 0.35 * len(kept) + 2), 4))
+    figure, axes = pyplot.subplots(figsize=(max(6.4, 0.35 * len(kept) + 2), 4.8))
     places = range(len(kept))
     axes.bar([place - 0.2 for place in places], [row[1] for row in kept], 0.4, label="counted")
     axes.bar([place + 0.2 for place in places], [row[2] for row in kept], 0.4, label="ideal")
     axes.set_xticks(list(places))
     axes.set_xticklabels([row[0] for row in kept], rotation=90 if len(kept) > 4 else 0, family="monospace")
     axes.set_ylabel("share of runs")
-    axes.set_title(title + (f" (the first {MOST_BARS} strings)" if len(rows) > MOST_BARS else ""))
+    axes.set_title(title + (f" (the first {MOST_BARS} strings)" if len(rows) > MOST_BARS else ""), fontsize="medium")
     axes.legend()
     figure.tight_layout()
     figure.savefig(path)

@@ -20,6 +20,7 @@ from .program import Program, of_body
 from .refusals import WORDS, CannotRead, Missing, NoLibrary, Refused
 
 MOST_TEXT = 16 << 20  # bytes of a file that is read as text
+MOST_JOBS = 256
 FINE, FOUND, TROUBLE, STOPPED = 0, 1, 2, 130
 STATUS = "Exit status: 0 fine; 1 something was refused, or counts do not agree; 2 it could not be done; 130 stopped by Ctrl-C."
 
@@ -265,7 +266,7 @@ def along(paths: Sequence[str], jobs: int, strict: bool) -> Iterator[Listed]:
         for path in paths:
             yield listed(path, strict)
         return
-    pool = ThreadPoolExecutor(jobs)
+    pool = ThreadPoolExecutor(min(jobs, MOST_JOBS))
     waiting: Deque = deque()
     try:
         for path in paths:
@@ -340,7 +341,7 @@ def compare(args: argparse.Namespace) -> int:
     agrees, line = counts.verdict(found, args.alpha, args.allow)
     print(line)
     if args.plot:
-        plot(args.plot, f"{args.counts} beside {program.path}", found)
+        plot(args.plot, f"{Path(args.counts).name} beside {Path(program.path).name}", found)
     return FINE if agrees else FOUND
 
 

@@ -9,6 +9,7 @@ from .program import Program
 from .refusals import CannotRead
 
 FEWEST_EXPECTED = 5  # counts of a string, below which the G-test is not to be relied on
+MOST_COUNTS = 10 ** 15  # of a string, so that doubles hold them
 EPSILON = 1e-15
 TINY = 1e-300
 
@@ -62,6 +63,8 @@ def counts_of(text: str, path: str) -> Dict[str, int]:
         data = json.loads(text, object_pairs_hook=once)
     except json.JSONDecodeError as error:
         raise CannotRead("", f"not JSON: {error.msg}", error.lineno, path) from None
+    except ValueError:
+        raise CannotRead("", "a number that is too long", path=path) from None
     except RecursionError:
         raise CannotRead("", "nested too deeply to be read", path=path) from None
     if isinstance(data, dict) and isinstance(data.get("counts"), dict):
@@ -69,7 +72,7 @@ def counts_of(text: str, path: str) -> Dict[str, int]:
     if not isinstance(data, dict) or not data:
         raise CannotRead("", 'no counts: write {"00": 512, "11": 488}', path=path)
     for key, value in data.items():
-        if isinstance(value, bool) or not isinstance(value, int) or value < 0:
+        if isinstance(value, bool) or not isinstance(value, int) or not 0 <= value <= MOST_COUNTS:
             raise CannotRead(repr(key), f"{json.dumps(value)[:40]} is not a count; write a whole number", path=path)
     if not sum(data.values()):
         raise CannotRead("", "all counts are 0; there is nothing to compare", path=path)

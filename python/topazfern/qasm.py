@@ -4,7 +4,7 @@ from __future__ import annotations
 from typing import Callable, Dict, List, Set, Tuple
 
 from . import gates as g
-from .program import Measure, Op, Program, Repeat
+from .program import MOST_WRITTEN_OUT, Measure, Op, Program, Repeat
 from .qasm_gates import Call, Definition, Gates
 from .refusals import CannotRead
 
@@ -24,6 +24,8 @@ REFUSED = {
 STATEMENTS = ("OPENQASM", "include", "qreg", "creg", "qubit", "bit", "const", "barrier", "reset", "measure", "for", "gate")
 ONLY_3 = ("qubit", "bit", "for", "const", "inv", "ctrl", "negctrl", "pow", "gphase", "let", "def")
 
+MOST_STATEMENTS = 200_000
+
 
 class Reader(Gates):
     """One file, read statement by statement."""
@@ -36,7 +38,7 @@ class Reader(Gates):
         self.lines: Dict[int, int] = {}  # the line that measures into a bit
         self.touched: Set[int] = set()
         self.starts: Dict[int, int] = {}  # wires that are reset at the start
-        self.depth = 0  # of loops
+        self.depth, self.run = 0, 0  # of loops; statements
 
     def program(self) -> Program:
         ops: List[Op] = []
@@ -52,6 +54,9 @@ class Reader(Gates):
 
     def statement(self) -> List[Op]:
         self.begins = self.at
+        self.run += 1
+        if self.run > MOST_STATEMENTS:
+            self.bad(f"more than {MOST_STATEMENTS} statements are run")
         word = self.token.text
         if self.token.kind != "name" and word not in (";", "@", "{"):
             self.bad("not a statement", word)
@@ -138,6 +143,8 @@ class Reader(Gates):
     def _bits(self, name: str, size: int, register: bool) -> None:
         self._declared(self.bits, name, size, register, self.letters)
         self.letters += size
+        if self.letters > MOST_WRITTEN_OUT:
+            self.bad(f"more than {MOST_WRITTEN_OUT} bits")
 
     def _old(self, declare: Callable[[str, int, bool], None]) -> List[Op]:
         """`qreg q[3];` and `creg c[3];`"""

@@ -16,6 +16,7 @@ TOKEN = re.compile(r"""
 STRINGS = re.compile(r"(?://|#)\s*topaz:\s*(.*)")
 
 CONSTANTS = {"pi": math.pi, "π": math.pi, "tau": math.tau, "τ": math.tau, "euler": math.e, "ℇ": math.e}
+LONGEST = 40  # letters of a number
 FUNCTIONS = {"sin": math.sin, "cos": math.cos, "tan": math.tan, "exp": math.exp, "ln": math.log, "sqrt": math.sqrt}
 Value = Callable[[Dict[str, Any]], Any]
 
@@ -47,6 +48,8 @@ class Words:
             kind, text = str(found.lastgroup), found.group()
             if self.source.startswith("/*", at) and kind != "comment":
                 raise CannotRead("/*", "a comment that does not end", line, self.path)
+            if len(text) > LONGEST and (kind == "number" or text[0] == "$"):
+                raise CannotRead(text[:12] + "...", "a number that is too long", line, self.path)
             if kind in ("name", "number", "sign", "text"):
                 tokens.append(Token(kind, text, line, at))
             elif kind == "pragma":

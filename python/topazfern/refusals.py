@@ -77,8 +77,17 @@ class CannotRead(Exception):
         super().__init__(what, words, line, path)
 
     def __str__(self) -> str:
-        parts = [self.path, f"line {self.line}" if self.line is not None else "", self.what, self.words]
+        parts = [self.path, f"line {self.line}" if self.line is not None else "", plain(self.what), plain(self.words)]
         return ": ".join(part for part in parts if part)
+
+
+def plain(text: str) -> str:
+    """A text with all that a terminal would not print written out.
+
+    >>> print(plain("a\x1b[2J"))
+    a\\x1b[2J
+    """
+    return "".join(letter if letter.isprintable() else letter.encode("unicode_escape").decode("ascii") for letter in text)
 
 
 def taken(number: int, place: str = "") -> None:

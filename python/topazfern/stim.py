@@ -6,7 +6,7 @@ from collections import Counter
 from typing import Dict, List, NoReturn, Tuple
 
 from . import gates as g
-from .program import Measure, Op, Program, Repeat
+from .program import MOST_WRITTEN_OUT, Measure, Op, Program, Repeat, measured
 from .refusals import CannotRead
 from .standard import FIXED, STIM_NAMES, applied
 
@@ -17,6 +17,7 @@ REMARKS = ("TICK", "QUBIT_COORDS", "SHIFT_COORDS", "DETECTOR", "OBSERVABLE_INCLU
 NOISE = ("DEPOLARIZE1", "DEPOLARIZE2", "X_ERROR", "Y_ERROR", "Z_ERROR", "PAULI_CHANNEL_1", "PAULI_CHANNEL_2", "CORRELATED_ERROR", "E",
          "ELSE_CORRELATED_ERROR", "HERALDED_ERASE", "HERALDED_PAULI_CHANNEL_1", "I_ERROR", "II_ERROR")
 MOST_RUNS = 1_000_000
+NUMBER = re.compile("[0-9]{1,9}")
 
 
 class Reader:
@@ -48,6 +49,8 @@ class Reader:
             self.bad("a block that is not closed")
         if not self.width:
             raise CannotRead("", "no qubits are named, so there is no circuit", path=self.path)
+        if measured(self.open[0]) > MOST_WRITTEN_OUT:
+            raise CannotRead("", f"more than {MOST_WRITTEN_OUT} measurements, REPEAT written out", path=self.path)
         program = Program(self.path, self.width, self.open[0], first_left=True)
         program.notes, program.starts = self.notes, self.starts
         program.input, program.output = self.strings.get("input"), self.strings.get("output")
@@ -93,18 +96,18 @@ class Reader:
         self.bad("not a gate that is read here; write it with the gates of docs/FORMATS.md")
 
     def repeat(self, targets: List[str]) -> None:
-        if len(targets) != 2 or not targets[0].isdecimal() or targets[1] != "{":
+        if len(targets) != 2 or not NUMBER.fullmatch(targets[0]) or targets[1] != "{":
             self.bad("REPEAT wants a count and { at the end of the line")
         count = int(targets[0])
         if not 1 <= count <= MOST_RUNS:
-            self.bad(f"a count of 1 to {MOST_RUNS}")
+            self.bad(f"a count of 1 to {MOST_RUNS} has to stand here")
         self.counts.append((count, self.line))
         self.open.append([])
 
     def wire(self, target: str) -> int:
         if target.startswith(("rec[", "sweep[")):
             self.bad(f"{target}: a book has no gate that depends on an outcome")
-        if not target.isdecimal():
+        if not NUMBER.fullmatch(target):
             self.bad(f"{target} is no qubit")
         wire = int(target)
         if wire >= g.MOST_WIRES:

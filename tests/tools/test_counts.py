@@ -79,7 +79,7 @@ class Compared(unittest.TestCase):
         self.assertEqual(counts.counts_of('{"00": 1}', "f"), {"00": 1})
         self.assertEqual(counts.counts_of('{"shots": 3, "counts": {"0": 3}}', "f"), {"0": 3})
         for source, words in [("", "f: line 1: not JSON"), ("{\n\n1}", "line 3: not JSON"), ("[]", "no counts"), ("{}", "no counts"), ('{"0": 1.5}', "'0': 1.5 is not a count"), ('{"0": -1}', "-1 is not a count"),
-                              ('{"0": true}', "true is not a count"), ('{"0": 0}', "all counts are 0"), ('{"0": 1, "0": 2}', "'0': stands twice"), ('{"0": "1"}', "is not a count"), ("[" * 100000, "f: ")]:
+                              ('{"0": true}', "true is not a count"), ('{"0": 0}', "all counts are 0"), ('{"0": 1, "0": 2}', "'0': stands twice"), ('{"0": "1"}', "is not a count"), ("[" * 100000, "f: "), ('{"0": ' + "1" * 5000 + "}", "f: a number that is too long"), ('{"0": 1' + "0" * 400 + "}", "is not a count"), ('{"0": NaN}', "NaN is not a count")]:
             with self.assertRaises(CannotRead, msg=source) as caught:
                 counts.counts_of(source, "f")
             self.assertIn(words, str(caught.exception))

@@ -144,6 +144,8 @@ class Refused(unittest.TestCase):
             ("delay[100ns] q[0];", "a book has no time"), ('include "mine.inc";', "only qelib1.inc and stdgates.inc are known"), ("ctrl @ h q[0], q[1];", "only ctrl @ x, y and z"),
             ("negctrl @ x q[0], q[1];", "only ctrl @ x, y and z are read, not negctrl @ x"), ("pow(0.5) @ x q[0];", "a power that is not a whole number"),
             ("for int i in [0:3] { t q[i]; }", "t q[i]: not a Clifford gate"), ("for int i in [0:100000] { h q[0]; }", "more than 65536 runs"),
+            ("bit[1000000000] d;", "more than 65536 bits"), ("h q[" + "1" * 5000 + "];", "a number that is too long"), ("$" + "1" * 5000, "a number that is too long"), ("h q[10**400];", "cannot be computed"),
+            ("rx(1e999) q[0];", "no multiple of pi/2"), ("h\x1b[2J q[0];", "\\x1b[2J q[0];: not OpenQASM"), ("for int i in [1:65536] { for int j in [1:65536] { barrier q[j % i]; } }", "statements are run"),
             ("for int i in [0:2] { bit d; }", "a declaration inside a loop"), ("for int i in [0:3] { h q[0];", "a loop that does not end"),
             ("gate a x { a x; } a q[0];", "a x: an unknown gate"), ("gate a x { h y; }", "y is no operand of the gate"), ("gate a x { measure x; }", "a definition of a gate has gates only"),
             ("/* never", "a comment that does not end"), ("h q[1/0];", "cannot be computed"), ("h q[0.5];", "0.5 is not a whole number"), ("?", "?: not OpenQASM"),
@@ -161,8 +163,8 @@ class Refused(unittest.TestCase):
             ("M(0.01) 0", "M(0.01) 0: a noisy measurement"), ("MX 0", "MX 0: only M is read"), ("MR 0", "MR 0: a reset is no gate of a book"), ("R 0", "R 0: a reset behind a gate"),
             ("MPP X0*Z1", "only M is read"), ("CX rec[-1] 0", "rec[-1]: a book has no gate that depends on an outcome"), ("CX 0", "CX takes qubits in pairs"),
             ("CX 1 1", "names the same qubit twice"), ("H 31", "qubit 31: a book has at most 31 wires"), ("H a", "a is no qubit"), ("H(1) 0", "H takes no argument"), ("REPEAT 3", "REPEAT wants a count"),
-            ("REPEAT 0 {\nH 0\n}", "a count of 1 to"), ("}", "}: no block is open"), ("REPEAT 3 {\nH 0", "a block that is not closed"), ("!!", "not a line of Stim"), ("H -1", "-1 is no qubit"),
-        ]] + [("", "no qubits are named"), ("TICK", "no qubits are named")], stim)
+            ("REPEAT 0 {\nH 0\n}", "a count of 1 to"), ("H " + "1" * 5000, "is no qubit"), ("REPEAT " + "9" * 5000 + " {", "REPEAT wants a count"), ("}", "}: no block is open"), ("REPEAT 3 {\nH 0", "a block that is not closed"), ("!!", "not a line of Stim"), ("H -1", "-1 is no qubit"),
+        ]] + [("", "no qubits are named"), ("TICK", "no qubits are named"), ("REPEAT 999999 {\nREPEAT 999999 {\nM 0\n}\n}", "more than 65536 measurements")], stim)
 
     def test_outputs(self):
         program = qasm.read(head(3, 2, 3) + "c[0] = measure q[0];", "f")
@@ -198,6 +200,21 @@ class Random(unittest.TestCase):
                 ops.insert(rng.randrange(len(ops) + 1), ("phase", (rng.randrange(-9, 9),)))
             source = model.as_qasm(rng, version, width, ops)
             self.agree(qasm.read(source, "f"), width, ops, edition, rng)
+
+    def test_modifiers(self):
+        rng = random.Random("modifiers")
+        turned = tuple(f"{kind}({k})" for kind in ("rx", "ry", "rz", "p") for k in range(-3, 9))
+        for name in (*model.ONE_WIRE, *turned):
+            for text, power in (("inv @", -1), ("pow(2) @", 2), ("pow(-3) @", -3), ("inv @ pow(2) @", -2), ("pow(0) @", 0)):
+                source = f"OPENQASM 3; qubit[2] q; {text} {model.call(rng, name)} q[1];"
+                (a, b), (c, d) = model.matrix(name)
+                undone = ((complex(a).conjugate(), complex(c).conjugate()), (complex(b).conjugate(), complex(d).conjugate()))
+                for column in (0, 2):
+                    state = model.basis(2, column)
+                    for _ in range(abs(power)):
+                        state = model.one_wire(state, model.matrix(name) if power > 0 else undone, 1)
+                    for row, expected in enumerate(state):
+                        self.assertAlmostEqual(complex(qasm.read(source).circuit().amplitude(column, row)), expected, places=9, msg=source)
 
     def test_stim(self):
         rng = random.Random("stim")
