@@ -147,6 +147,12 @@ class Edited(unittest.TestCase):
 
 
 class Text(unittest.TestCase):
+    def test_tables_by_their_fields(self):
+        shown = text.shown(Book.read(common.EXAMPLES / "tables.book"))
+        self.assertEqual([line.split("  ")[0] for line in shown.splitlines()],
+                         ["book edition 1", "", "table 2", "phase 2", "turn 1 3", "tie 0 1 = 1", "", "table 3", "power -3", "phase 5", "turn 1 1", "turn 2 3", "sign 1 2", "tie 0 2 = 0", "",
+                          "table 0", "power 2000", "phase 7"])
+
     def test_what_is_no_text_of_a_book(self):
         for source, words in [("", "the first line is not"), ("circuit 1", "line 1: circuit 1: the first line is"), ("book edition 2\nh 0", "line 2: h 0: a body has to begin first"),
                               ("book edition 2\ncircuit 1\nh", "line 3: h: 1 numbers of 0 to 255"), ("book edition 2\ncircuit 1\nh 256", "1 numbers of 0 to 255"),

@@ -248,6 +248,20 @@ class Random(unittest.TestCase):
             self.assertAlmostEqual(0 if power is None else 2.0 ** -power, chance, places=9)
             self.assertEqual(possible.get(tuple(bits)), power)
 
+    def test_outputs_of_circuits(self):
+        """Where nothing is measured an output is over all wires."""
+        rng = random.Random("outputs")
+        for _ in range(60):
+            width = rng.randrange(1, 5)
+            ops = model.drawn(rng, width, rng.randrange(12), model.TEN)
+            program, given = qasm.read(model.as_qasm(rng, 3, width, ops)), rng.randrange(1 << width)
+            chances = [abs(value) ** 2 for value in model.run(width, given, ops)]
+            possible = {sum(bit << wire for wire, bit in enumerate(bits)): power for bits, power in program.possible(given)}
+            for output, chance in enumerate(chances):
+                power = program.power([output >> wire & 1 for wire in range(width)], given)
+                self.assertEqual(possible.get(output), power)
+                self.assertAlmostEqual(0 if power is None else 2.0 ** -power, chance, places=9)
+
     def test_repeats_with_outcomes(self):
         rng = random.Random("repeats")
         for _ in range(60):
