@@ -2,6 +2,7 @@
 from __future__ import annotations
 
 import argparse
+import io
 import os
 import signal
 import subprocess
@@ -9,7 +10,7 @@ import sys
 from collections import deque
 from concurrent.futures import ThreadPoolExecutor
 from pathlib import Path
-from typing import Callable, Deque, Iterator, List, NamedTuple, NoReturn, Optional, Sequence, Tuple
+from typing import Any, Callable, Deque, Dict, Iterator, List, NamedTuple, NoReturn, Optional, Sequence, Tuple
 
 from . import __version__, chart, counts, export, qasm, stim, text, why
 from . import gates as g
@@ -392,11 +393,11 @@ def positive(word: str) -> int:
     return value
 
 
-FORMAT = {"choices": ["qasm", "stim", "book", "text"], "help": "what the file is, where its name and first line do not say it"}
+FORMAT: Dict[str, Any] = {"choices": ["qasm", "stim", "book", "text"], "help": "what the file is, where its name and first line do not say it"}
 Does = Callable[[argparse.Namespace], int]
-BODY = {"type": int, "metavar": "J", "help": "body J of a book, from 0 on"}
-INPUT = {"metavar": "STRING", "help": "the input string, wire 0 last (default: all 0)"}
-FIRST = {"choices": ["left", "right"], "help": "where the first bit of an output stands (default: right; left for Stim and for records)"}
+BODY: Dict[str, Any] = {"type": int, "metavar": "J", "help": "body J of a book, from 0 on"}
+INPUT: Dict[str, Any] = {"metavar": "STRING", "help": "the input string, wire 0 last (default: all 0)"}
+FIRST: Dict[str, Any] = {"choices": ["left", "right"], "help": "where the first bit of an output stands (default: right; left for Stim and for records)"}
 
 
 def parser() -> argparse.ArgumentParser:
@@ -489,7 +490,8 @@ def main(argv: Optional[Sequence[str]] = None) -> int:
     if sys.stdout is None or sys.stderr is None:
         return TROUBLE  # no place to write to, and none to say so
     for stream in (sys.stdout, sys.stderr):
-        stream.reconfigure(errors="surrogateescape")  # names of files are printed as they are
+        if isinstance(stream, io.TextIOWrapper):
+            stream.reconfigure(errors="surrogateescape")  # names of files are printed as they are
     try:
         args = parser().parse_args(argv)
         ready()

@@ -117,10 +117,10 @@ class Writer:
     def _repeat(self, op: Repeat, depth: int) -> None:
         """A block, written out where the format has none, or where each run measures into bits of its own."""
         if self.format == "qasm2" or self.format == "qasm3" and measured(op.ops):
-            for _ in range(op.count):
+            for _ in range(op.times):
                 self.ops(op.ops, depth)
             return
-        self._line(depth, f"REPEAT {op.count} {{" if self.format == "stim" else f"for uint i{depth} in [1:{op.count}] {{")
+        self._line(depth, f"REPEAT {op.times} {{" if self.format == "stim" else f"for uint i{depth} in [1:{op.times}] {{")
         self.ops(op.ops, depth + 1)
         self._line(depth, "}")
 

@@ -47,7 +47,7 @@ class Measure(NamedTuple):
 class Repeat(NamedTuple):
     """Operations that are run so many times."""
 
-    count: int
+    times: int
     ops: Tuple["Op", ...]
 
 
@@ -60,7 +60,7 @@ def measured(ops: Sequence[Op]) -> int:
     >>> measured([Measure(0), Repeat(3, (Measure(1), Gate("h", (0,))))])
     4
     """
-    return sum(1 if isinstance(op, Measure) else op.count * measured(op.ops) if isinstance(op, Repeat) else 0 for op in ops)
+    return sum(1 if isinstance(op, Measure) else op.times * measured(op.ops) if isinstance(op, Repeat) else 0 for op in ops)
 
 
 def repeated(block: bytes, count: int) -> bytes:
@@ -135,15 +135,15 @@ class Layout:
         """A repeat: one block, or where outcomes differ, a block for each stretch of runs with the same outcomes."""
         each = measured(op.ops)
         if each == 0:
-            return self._block(self.written(op.ops), op.count)
-        left = self.outcomes[self.at:self.at + each * op.count]
+            return self._block(self.written(op.ops), op.times)
+        left = self.outcomes[self.at:self.at + each * op.times]
         runs = [tuple(left[at:at + each]) for at in range(0, len(left) - each + 1, each)]
         parts = []
         for outcomes, stretch in groupby(runs):
             block, count = Layout(self.edition, outcomes).written(op.ops), len(list(stretch))
             parts.append(block if count == 1 else self._block(block, count))
         self.at += each * len(runs)
-        if len(runs) < op.count:
+        if len(runs) < op.times:
             parts.append(self.written(op.ops))  # stops on the way
         return b"".join(parts)
 

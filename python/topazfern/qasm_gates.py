@@ -110,7 +110,7 @@ class Gates(Words):
         if self.token.text in NOT_IN_GATES:
             self.bad("a definition of a gate has gates only")
         changes, name, angles = self.head()
-        operands = []
+        operands: List[int] = []
         while name != "gphase" and (not operands or self.has(",")):
             operand = self.name()
             if operand not in formal:

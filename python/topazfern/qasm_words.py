@@ -2,6 +2,7 @@
 from __future__ import annotations
 
 import math
+import operator
 import re
 from collections import Counter
 from typing import Any, Callable, Dict, List, NamedTuple, NoReturn, Optional
@@ -17,6 +18,8 @@ STRINGS = re.compile(r"(?://|#)\s*topaz:\s*(.*)")
 
 CONSTANTS = {"pi": math.pi, "π": math.pi, "tau": math.tau, "τ": math.tau, "euler": math.e, "ℇ": math.e}
 LONGEST = 40  # letters of a number
+COMPUTED: Dict[str, Callable[..., Any]] = {
+    "+": operator.add, "-": operator.sub, "*": operator.mul, "%": operator.mod, "**": lambda a, b: float(a) ** b, "^": lambda a, b: float(a) ** b}
 FUNCTIONS = {"sin": math.sin, "cos": math.cos, "tan": math.tan, "exp": math.exp, "ln": math.log, "sqrt": math.sqrt}
 Value = Callable[[Dict[str, Any]], Any]
 
@@ -118,7 +121,7 @@ class Words:
             try:
                 if sign == "/":
                     return self._divided(a, b, what, line)
-                return {"+": lambda: a + b, "-": lambda: a - b, "*": lambda: a * b, "%": lambda: a % b}.get(sign, lambda: float(a) ** b)()
+                return COMPUTED[sign](a, b)
             except (ArithmeticError, ValueError, TypeError):
                 self.bad("a number that cannot be computed", what, line)
         return computed

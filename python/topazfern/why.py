@@ -43,9 +43,9 @@ def reasons(book: Book) -> Iterator[Reason]:
     starts = [int.from_bytes(book.data[at + 4:at + 8], "little") for at in range(HEADER, HEADER + ENTRY * book.data[3], ENTRY)]
     lines = book.listing().splitlines()[1:]
     for j, (body, line, start) in enumerate(zip(book.bodies, lines, starts)):
-        words = line.split()
-        if words[1] == "refused":
-            number = int(words[2])
+        told = line.split()
+        if told[1] == "refused":
+            number = int(told[2])
             gate = placed(number, body, book.edition)
             strings = {CIRCUIT: 8, RECORD: 4}.get(body.kind, 0)
             byte = start + strings + 3 * int(gate.split()[1].rstrip(":")) if gate else start
