@@ -20,7 +20,7 @@ CONSTANTS = {"pi": math.pi, "π": math.pi, "tau": math.tau, "τ": math.tau, "eul
 LONGEST = 40  # letters of a number
 COMPUTED: Dict[str, Callable[..., Any]] = {
     "+": operator.add, "-": operator.sub, "*": operator.mul, "%": operator.mod, "**": lambda a, b: float(a) ** b, "^": lambda a, b: float(a) ** b}
-FUNCTIONS = {"sin": math.sin, "cos": math.cos, "tan": math.tan, "exp": math.exp, "ln": math.log, "sqrt": math.sqrt}
+FUNCTIONS: Dict[str, Callable[..., Any]] = {"sin": math.sin, "cos": math.cos, "tan": math.tan, "exp": math.exp, "ln": math.log, "sqrt": math.sqrt}
 Value = Callable[[Dict[str, Any]], Any]
 
 
@@ -150,12 +150,22 @@ class Words:
             number = int(text, 0) if re.fullmatch(r"0[xXbB]\w+|\d+", text) and not re.fullmatch(r"0\d+", text) else float(text)
             return lambda names: number
         if token.kind == "name" and token.text in FUNCTIONS and self.has("("):
-            inner, function = self.value(), FUNCTIONS[token.text]
+            inner = self.value()
             self.need(")")
-            return lambda names: function(inner(names))
+            return self._of(token.text, inner)
         if token.kind != "name":
             self.bad(f"a number is missing before {token.text!r}")
         return self._named(token.text)
+
+    def _of(self, name: str, inner: Value) -> Value:
+        line, what, function = self.tokens[self.begins].line, self.what(), FUNCTIONS[name]
+
+        def computed(names: Dict[str, Any]) -> Any:
+            try:
+                return function(inner(names))
+            except (ArithmeticError, ValueError):
+                self.bad("a number that cannot be computed", what, line)
+        return computed
 
     def _named(self, name: str) -> Value:
         line, what = self.tokens[self.begins].line, self.what()

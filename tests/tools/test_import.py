@@ -148,7 +148,7 @@ class Refused(unittest.TestCase):
             ("rx(1e999) q[0];", "no multiple of pi/2"), ("h\x1b[2J q[0];", "\\x1b[2J q[0];: not OpenQASM"), ("for int i in [1:65536] { for int j in [1:65536] { barrier q[j % i]; } }", "statements are run"),
             ("for int i in [0:2] { bit d; }", "a declaration inside a loop"), ("for int i in [0:3] { h q[0];", "a loop that does not end"),
             ("gate a x { a x; } a q[0];", "a x: an unknown gate"), ("gate a x { h y; }", "y is no operand of the gate"), ("gate a x { measure x; }", "a definition of a gate has gates only"),
-            ("/* never", "a comment that does not end"), ("h q[1/0];", "cannot be computed"), ("h q[0.5];", "0.5 is not a whole number"), ("?", "?: not OpenQASM"),
+            ("/* never", "a comment that does not end"), ("h q[1/0];", "cannot be computed"), ("h q[0.5];", "0.5 is not a whole number"), ("rx(sqrt(-1)) q[0];", "cannot be computed"), ("rx(exp(1e9)) q[0];", "cannot be computed"), ("h q[-pi];", "is not a whole number"), ("?", "?: not OpenQASM"),
         ]]
         cases += [(three + "h $0;", "f: line 3: qubit[4] q: hardware qubits and declared ones in one file"), ("OPENQASM 2.0; qubit q; h q;", "OpenQASM 2 has no qubit"), ("OPENQASM 4; qubit q;", "OpenQASM 2 and 3 are read"), ("OPENQASM 3;", "no qubits are declared"),
                   ("", "no qubits are declared"), (two + "opaque g a;", "a gate without a body"), (two + "OPENQASM 2.0;", "the version must stand first"),
