@@ -32,9 +32,10 @@ enum {
     TOPAZFERN_STRING = 8,        /* a string has a bit at or above the width */
     TOPAZFERN_HEADER = 9,        /* a book's length, letters, edition or count; an edition other than 1 or 2; a list to lay of more than 16; a seventeenth body */
     TOPAZFERN_CONTENTS = 10,     /* a book's contents; lists to lay unequal, bad kind, or total above 60,000; the same of an edit */
-    TOPAZFERN_BODY = 11,         /* body length wrong, more than 4,096 gates and marks, or elements to close, or a field out of range */
+    TOPAZFERN_BODY = 11,         /* body length wrong, more than 4,096 gates and marks, or elements to close, or a field out of range; a tableau's
+                                    count of rows, or a bit at or above twice the width */
     TOPAZFERN_NOT_NORMAL = 12,   /* a table that is not normal */
-    TOPAZFERN_ROOM = 13,         /* the area is too short for what is to be written, or the start or a stated length is beyond its end */
+    TOPAZFERN_ROOM = 13,         /* the area or list is too short for what is to be written, or the start or a stated length is beyond its end */
     TOPAZFERN_NO_BODY = 14,      /* no body of that number */
     TOPAZFERN_BLOCK = 16         /* a block unclosed, empty or unopened, more than 8 deep, or more than 65,536 gates written out */
 };
@@ -54,6 +55,19 @@ uint8_t topazfern_amplitude(uint8_t edition, uint8_t width, uint32_t input, uint
  * in the second byte. *never is 1 where the record cannot occur; else the chance is one over two to *power. Refuses 11, 6, 8, then
  * gate by gate 7, 6, 3 or 2, then 16. */
 uint8_t topazfern_chance(uint8_t width, uint32_t input, const uint8_t *gates, size_t gates_length, uint8_t *never, uint32_t *power);
+
+/* Whether a pair that a compiler hands over with a circuit is its Leuven tableau: rows is C, 2*width masks with column t at bit t (t from
+ * 0; below width the image of X on wire t, beyond it of Z on wire t - width), the masks of X of the wires and then those of Z, and h the
+ * vector of signs. *holds is 1 where U P_t U^-1 is i^d_t (-1)^h_t times, on each wire, Z to the left of X, for every t, d_t being 0 or 1,
+ * and else 0: a matrix that is no circuit's is a plain no. Refuses as an amplitude (without strings), then 11 for another count of rows or
+ * a bit at or above 2*width. */
+uint8_t topazfern_tableau(uint8_t edition, uint8_t width, const uint8_t *gates, size_t gates_length, const uint64_t *rows,
+                          size_t rows_length, uint64_t h, uint8_t *holds);
+
+/* That pair itself, which every circuit has, and only one: 2*width rows at the front of rows, the words behind them as they were, and the
+ * signs in *h. Refuses as an amplitude (without strings), then 13 where rows has fewer than 2*width words. */
+uint8_t topazfern_tableau_of(uint8_t edition, uint8_t width, const uint8_t *gates, size_t gates_length, uint64_t *rows,
+                             size_t rows_length, uint64_t *h);
 
 /* The listing of a book at the front of text: a line for each body, also for one that is refused; a fault of header or contents is the
  * single line of its number. Answers its length, at most 312; bytes beyond text_length are dropped. */

@@ -163,6 +163,26 @@ static void edits(uint8_t *book, size_t room, size_t length)
     edited("no third body", refused, book, length);
 }
 
+/* The Leuven tableau of CX, S, S, and what a check says of it, of a wrong sign, and of a row too few. */
+static void tableaux(void)
+{
+    static const uint8_t gates[] = {17, 0, 1, 2, 0, 0, 2, 1, 0};
+    uint64_t rows[4], h;
+    uint8_t holds = 0, refused;
+
+    refused = topazfern_tableau_of(2, 2, gates, sizeof gates, rows, 4, &h);
+    if (refused) {
+        printf("a tableau refused by %d\n", refused);
+        return;
+    }
+    printf("CX, S, S: rows %X %X %X %X, signs %X\n", (unsigned)rows[0], (unsigned)rows[1], (unsigned)rows[2], (unsigned)rows[3], (unsigned)h);
+    topazfern_tableau(2, 2, gates, sizeof gates, rows, 4, h, &holds);
+    printf("checked: %s\n", holds ? "yes" : "no");
+    topazfern_tableau(2, 2, gates, sizeof gates, rows, 4, h ^ 1, &holds);
+    printf("with one sign changed: %s\n", holds ? "yes" : "no");
+    printf("without its last row: refused %d\n", topazfern_tableau(2, 2, gates, sizeof gates, rows, 3, h, &holds));
+}
+
 int main(void)
 {
     uint8_t book[100], text[TOPAZFERN_LISTING_MAX], kind, zero, phase, refused;
@@ -184,5 +204,6 @@ int main(void)
     }
     edits(book, sizeof book, length);
     elements();
+    tableaux();
     return 0;
 }

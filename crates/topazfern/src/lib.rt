@@ -1,6 +1,7 @@
 // The calls for bench software in C: over numbers and byte slices alone. Each takes any bytes and any numbers; where it answers a number of refusal, nothing that was lent has changed, but that a writer answers 0 bytes.
 ghost use Rattle.cliffords.specs.Closing.{productNumber, inverseNumber, closingNumber, IsProduct, Undoes, Closes};
 ghost use Rattle.told_cliffords.specs.Told.{ElementTold};
+ghost use Rattle.told_tableau.specs.Told.{VerdictTold, PairTold};
 ghost use Rattle.contents_lay.specs.Lay.{ContentsLaid};
 ghost use Rattle.edit_numbers.specs.Volume.{remove, replace, add};
 ghost use Rattle.edit.specs.Edit.{Edits};
@@ -179,6 +180,35 @@ pub extern "C" fn topazfern_closing(numbers: &[u8], element: &mut u8) -> u8
     ensures { λ n. ⌜ ElementTold (closingNumber (now (numbers .entry))) (Closes (now (numbers .entry))) (now (element .entry)) n (now (element .exit)) ⌝ }
 {
     told_cliffords::closing(numbers, element)
+}
+
+// Whether rows and signs that a compiler hands over are the Leuven tableau of a circuit of an edition.
+#[no_mangle]
+pub extern "C" fn topazfern_tableau(
+    edition: u8,
+    width: u8,
+    gates: &[u8],
+    rows: &[u64],
+    h: u64,
+    holds: &mut u8,
+) -> u8
+    ensures { λ n. ⌜ VerdictTold edition width (now (gates .entry)) (now (rows .entry)) h (now (holds .entry)) n (now (holds .exit)) ⌝ }
+{
+    told_tableau::check(edition, width, gates, rows, h, holds)
+}
+
+// The Leuven tableau of a circuit of an edition: 2n rows at the front of a list, the signs behind the pointer.
+#[no_mangle]
+pub extern "C" fn topazfern_tableau_of(
+    edition: u8,
+    width: u8,
+    gates: &[u8],
+    rows: &mut [u64],
+    h: &mut u64,
+) -> u8
+    ensures { λ n. ⌜ PairTold edition width (now (gates .entry)) (now (rows .entry)) (now (h .entry)) n (now (rows .exit)) (now (h .exit)) ⌝ }
+{
+    told_tableau::of(edition, width, gates, rows, h)
 }
 
 // Body j of the book in the first `length` bytes of an area goes; behind the pointer stands the new length, 0 where refused.
