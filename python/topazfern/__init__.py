@@ -10,11 +10,11 @@ An amplitude is a power of root two and a phase in eighth turns, or zero. All an
 calls it and shows. Where the shared library is found: ``topazfern.library``.
 """
 from .book import Answer, Body, Book
-from .circuit import Circuit, Record, closing, inverse, product
+from .circuit import Circuit, Record, Tableau, closing, inverse, product
 from .library import Amount
 from .refusals import CannotRead, Missing, NoLibrary, Refused
 from .table import Table, Tie
 
 __version__ = "1.0"
-__all__ = ["Amount", "Answer", "Body", "Book", "CannotRead", "Circuit", "Missing", "NoLibrary", "Record", "Refused", "Table", "Tie", "closing",
+__all__ = ["Amount", "Answer", "Body", "Book", "CannotRead", "Circuit", "Missing", "NoLibrary", "Record", "Refused", "Table", "Tableau", "Tie", "closing",
            "inverse", "product"]

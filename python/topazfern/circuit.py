@@ -4,7 +4,7 @@ from __future__ import annotations
 import ctypes
 from contextlib import contextmanager
 from fractions import Fraction
-from typing import Iterable, Iterator, List, Optional, Sequence, TypeVar, Union
+from typing import Iterable, Iterator, List, NamedTuple, Optional, Sequence, Tuple, TypeVar, Union
 
 from . import gates as g
 from .library import Amount, Told, element, load
@@ -176,6 +176,11 @@ class Items:
         """The number that refuses these gates on this width, from 0 to 0."""
         raise NotImplementedError
 
+    def _taken(self, number: int) -> None:
+        """Raises a refusal, with the gate that it is about."""
+        if number:
+            raise Refused(number, self._place(number))
+
     def _place(self, number: int) -> str:
         """The gate that a refusal is about: the first at which the gates so far are refused."""
         if number not in PER_GATE or self._number(b"") != 0:
@@ -189,6 +194,13 @@ class Items:
                 low = middle
         item = g.Item(*self.gates[3 * low:3 * low + 3])
         return f"gate {low}: {item}"
+
+
+class Tableau(NamedTuple):
+    """A Leuven tableau: the rows of C, column t at bit t, first those of X on the wires and then of Z, and the vector h of signs."""
+
+    rows: Tuple[int, ...]
+    h: int
 
 
 class Circuit(Items):
@@ -215,9 +227,7 @@ class Circuit(Items):
         zero
         """
         told = Told()
-        number = self._amplitude(bytes(self.gates), self._string(input), self._string(output), told)
-        if number:
-            raise Refused(number, self._place(number))
+        self._taken(self._amplitude(bytes(self.gates), self._string(input), self._string(output), told))
         return told.amount
 
     def amplitudes(self, input: Union[int, str], outputs: Iterable[Union[int, str]]) -> List[Amount]:
@@ -227,6 +237,29 @@ class Circuit(Items):
         ['-1 0', 'zero', 'zero', '-1 0']
         """
         return [self.amplitude(input, output) for output in outputs]
+
+    def tableau(self) -> "Tableau":
+        """The Leuven tableau of the circuit, which every circuit has: 2 · width masks, and the signs.
+
+        >>> Circuit(1).h(0).s(0).tableau()
+        Tableau(rows=(2, 3), h=2)
+        """
+        rows, h = (ctypes.c_uint64 * max(1, 2 * self.width))(), ctypes.c_uint64()
+        self._taken(load().call("topazfern_tableau_of")(self.edition, self.width, bytes(self.gates), len(self.gates), rows, 2 * self.width, ctypes.byref(h)))
+        return Tableau(tuple(rows), h.value)
+
+    def has_tableau(self, rows: Sequence[int], h: int) -> bool:
+        """Whether a pair that a compiler hands over is the circuit's Leuven tableau, signs included.
+
+        >>> Circuit(1).s(0).has_tableau([1, 3], 1), Circuit(1).s(0).has_tableau([1, 3], 0)
+        (True, False)
+        """
+        if not all(0 <= mask < 1 << 64 for mask in (*rows, h)):
+            raise ValueError("rows and signs are masks of 64 bits")
+        words, holds = (ctypes.c_uint64 * max(1, len(rows)))(*rows), ctypes.c_uint8()
+        call = load().call("topazfern_tableau")
+        self._taken(call(self.edition, self.width, bytes(self.gates), len(self.gates), words, len(rows), h, ctypes.byref(holds)))
+        return bool(holds.value)
 
     def measured(self) -> "Record":
         """The same gates as a record without measurements; a chance does not know a phase, so that both editions give the same.
@@ -275,9 +308,7 @@ class Record(Items):
         (1, None)
         """
         never, power = ctypes.c_uint8(), ctypes.c_uint32()
-        number = self._chance(bytes(self.gates), self._string(input), never, power)
-        if number:
-            raise Refused(number, self._place(number))
+        self._taken(self._chance(bytes(self.gates), self._string(input), never, power))
         return None if never.value else power.value
 
     def chance(self, input: Union[int, str] = 0) -> Fraction:
