@@ -238,6 +238,27 @@ class Circuit(Items):
         """
         return [self.amplitude(input, output) for output in outputs]
 
+    def same(self, other: "Circuit") -> bool:
+        """Whether two circuits of one width are the same operator, phase included.
+
+        >>> Circuit(2).swap(0, 1).same(Circuit(2).cx(0, 1).cx(1, 0).cx(0, 1)) if load().has("topazfern_same") else True
+        True
+        """
+        same = ctypes.c_uint8()
+        self._beside(other, load().call("topazfern_same")(*self._given(), *other._given(), ctypes.byref(same)))
+        return bool(same.value)
+
+    def common_phase(self, other: "Circuit") -> Optional[int]:
+        """The eighth turns that make this circuit's entries the other's; None where none do.
+
+        >>> Circuit(1).x(0).z(0).common_phase(Circuit(1).z(0).x(0)) if load().has("topazfern_common_phase") else 4
+        4
+        """
+        same, phase = ctypes.c_uint8(), ctypes.c_uint8()
+        call = load().call("topazfern_common_phase")
+        self._beside(other, call(*self._given(), *other._given(), ctypes.byref(same), ctypes.byref(phase)))
+        return phase.value if same.value else None
+
     def tableau(self) -> "Tableau":
         """The Leuven tableau of the circuit, which every circuit has: 2 · width masks, and the signs.
 
@@ -245,7 +266,7 @@ class Circuit(Items):
         Tableau(rows=(2, 3), h=2)
         """
         rows, h = (ctypes.c_uint64 * max(1, 2 * self.width))(), ctypes.c_uint64()
-        self._taken(load().call("topazfern_tableau_of")(self.edition, self.width, bytes(self.gates), len(self.gates), rows, 2 * self.width, ctypes.byref(h)))
+        self._taken(load().call("topazfern_tableau_of")(*self._given(), rows, 2 * self.width, ctypes.byref(h)))
         return Tableau(tuple(rows), h.value)
 
     def has_tableau(self, rows: Sequence[int], h: int) -> bool:
@@ -258,7 +279,7 @@ class Circuit(Items):
             raise ValueError("rows and signs are masks of 64 bits")
         words, holds = (ctypes.c_uint64 * max(1, len(rows)))(*rows), ctypes.c_uint8()
         call = load().call("topazfern_tableau")
-        self._taken(call(self.edition, self.width, bytes(self.gates), len(self.gates), words, len(rows), h, ctypes.byref(holds)))
+        self._taken(call(*self._given(), words, len(rows), h, ctypes.byref(holds)))
         return bool(holds.value)
 
     def measured(self) -> "Record":
@@ -276,6 +297,18 @@ class Circuit(Items):
         '00 00 00 00 01 00 00 00 01 00 00'
         """
         return self._string(input).to_bytes(4, "little") + self._string(output).to_bytes(4, "little") + bytes(self.gates)
+
+    def _given(self) -> Tuple[int, int, bytes, int]:
+        """Edition, width and gates, as calls take them."""
+        return self.edition, self.width, bytes(self.gates), len(self.gates)
+
+    def _beside(self, other: "Circuit", number: int) -> None:
+        """Raises a refusal of two circuits: of the first with its gate, else of the second, or of both together."""
+        if number and self._number(bytes(self.gates)):
+            self._taken(number)
+        if number:
+            place = other._place(number)
+            raise Refused(number, f"the second circuit, {place}" if place else "the second circuit, or the widths differ")
 
     def _amplitude(self, gates: bytes, input: int, output: int, told: Told) -> int:
         return load().call("topazfern_amplitude")(self.edition, self.width, input, output, gates, len(gates), *told.pointers)

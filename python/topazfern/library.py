@@ -23,6 +23,7 @@ LISTING_MAX = 312
 
 _slice = (c_char_p, c_size_t)  # bytes that are only read, and how many
 _area = (c_void_p, c_size_t)  # bytes that are written, and how many
+_circuit = (c_uint8, c_uint8, *_slice)  # edition, width, gates
 _words = (POINTER(c_uint64), c_size_t)
 _amount = (POINTER(c_uint8), POINTER(c_int32), POINTER(c_uint8))  # zero, power, phase
 _body = (POINTER(c_uint8), POINTER(c_size_t), POINTER(c_size_t), *_amount)  # kind, live, ties, and the amount
@@ -33,8 +34,10 @@ _element = (POINTER(c_uint8),)
 CALLS: Dict[str, Tuple[Any, ...]] = {
     "topazfern_amplitude": (c_uint8, c_uint8, c_uint32, c_uint32, *_slice, *_amount),
     "topazfern_chance": (c_uint8, c_uint32, *_slice, POINTER(c_uint8), POINTER(c_uint32)),
-    "topazfern_tableau": (c_uint8, c_uint8, *_slice, *_words, c_uint64, POINTER(c_uint8)),
-    "topazfern_tableau_of": (c_uint8, c_uint8, *_slice, *_words, POINTER(c_uint64)),
+    "topazfern_tableau": (*_circuit, *_words, c_uint64, POINTER(c_uint8)),
+    "topazfern_tableau_of": (*_circuit, *_words, POINTER(c_uint64)),
+    "topazfern_same": (*_circuit, *_circuit, POINTER(c_uint8)),
+    "topazfern_common_phase": (*_circuit, *_circuit, POINTER(c_uint8), POINTER(c_uint8)),
     "topazfern_listing": (*_slice, *_area),
     "topazfern_listing_strict": (*_slice, *_area),
     "topazfern_read": (*_slice, c_size_t, *_body),
@@ -59,6 +62,14 @@ class Library:
         self.path = path
         self._dll = ctypes.CDLL(path)
         self._calls: Dict[str, Callable[..., int]] = {}
+
+    def has(self, name: str) -> bool:
+        """Whether this library has a call.
+
+        >>> load().has("topazfern_listing"), load().has("topazfern_no_such_call")
+        (True, False)
+        """
+        return hasattr(self._dll, name)
 
     def call(self, name: str) -> Callable[..., int]:
         """The call of a name.
