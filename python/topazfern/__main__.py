@@ -1,0 +1,4 @@
+"""python3 -m topazfern is the command topaz."""
+from .cli import run
+
+run()
