@@ -7,6 +7,8 @@
  * cannot check: each pointer is valid for its length (a length of 0 may come with any pointer that is not null), and no two
  * of a call's pointers overlap where one of them is written through. Calls may run at the same time on different memory.
  *
+ * No call hands a table over, so none takes or shows a label: a table is read as from label 0 on.
+ *
  * An amount stands behind three pointers: *zero is 1 where it is 0 (then *power and *phase are 0); else *zero is 0 and the
  * amount is the square root of two to *power, turned by *phase eighths (0..7).
  */

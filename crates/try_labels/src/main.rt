@@ -33,7 +33,12 @@ fn show_joined(name: &[u8], j: Joined) {
     let l = ls.at(Slot(2));
     io::write_all(1, name);
     show(b": refusal ", j.refusal as u64);
-    show(b", place ", places[0] as u64);
+    if places[0] == 2 {
+        io::write_all(1, b", place 2");
+    }
+    if places[0] == 64 {
+        io::write_all(1, b", place 64");
+    }
     show(b", label of slot 2: ", l.0 as u64);
     io::write_all(1, b"\n");
 }

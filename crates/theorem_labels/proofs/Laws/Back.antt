@@ -91,8 +91,8 @@ same-written-labels n bs small first r A z xs start w ys W = go (pastLast first 
         N : Normal (named first (A .body .table))
         N = named-normal first n (A .body .table) (subst NormalState (sym state) (A .read .normal own)) (ap (λ (s : State). s .live) state ∙ live-is n bs) (fine n bs tested .narrow) p
 
-        V : TableWritten (named first (A .body .table)) xs start w ys
-        V = subst (λ (t : Table). TableWritten t xs start w ys) (ap (λ (s : Reading). s .table) given) W
+        X : TableWritten (named first (A .body .table)) xs start w ys
+        X = subst (λ (t : Table). TableWritten t xs start w ys) (ap (λ (s : Reading). s .table) given) W
 
         written : BodyWritten (A .body .table) xs start w ys
-        written = record { broken = λ h. absurd (h (N .state)); sound = λ M. V .sound N; nothing = V .nothing; kept = V .kept; count = V .count; written = V .written }
+        written = record { broken = λ h. absurd (h (N .state)); sound = λ M. X .sound N; nothing = X .nothing; kept = X .kept; count = X .count; written = X .written }
