@@ -29,7 +29,7 @@ enum {
     TOPAZFERN_TWICE = 2,         /* a gate names the same wire twice; no call on a table has it */
     TOPAZFERN_RANGE = 3,         /* second byte of a one-wire gate not 0; a block's count of 0, or a stray byte of its marks; an outcome
                                     that is neither 0 nor 1; number of a one-wire element above 23 */
-    TOPAZFERN_WIDTH = 6,         /* width of a circuit not 1..31, or a wire not below it */
+    TOPAZFERN_WIDTH = 6,         /* width of a circuit not 1..31, or a wire not below it; two circuits to compare of unequal widths */
     TOPAZFERN_CODE = 7,          /* unknown gate code */
     TOPAZFERN_STRING = 8,        /* a string has a bit at or above the width */
     TOPAZFERN_HEADER = 9,        /* a book's length, letters, edition or count; an edition other than 1 or 2; a list to lay of more than 16; a seventeenth body */
@@ -135,6 +135,18 @@ uint8_t topazfern_inverse(uint8_t i, uint8_t *element);
 /* The element that undoes up to 4,096 elements, applied in order: the closing gate of a one-wire run; of none it is 0.
  * Refuses 3 for a number above 23 anywhere, then 11 for more than 4,096. */
 uint8_t topazfern_closing(const uint8_t *numbers, size_t numbers_length, uint8_t *element);
+
+/* Whether two circuits of one width are the same operator: gates as for an amplitude, each with its own edition. *same is 1 where all
+ * entries agree, else 0. Refuses as the first circuit is (9, 11, 6, then item by item 7, 6, 3 or 2, then 16), as the second is, then
+ * 6 for unequal widths. */
+uint8_t topazfern_same(uint8_t edition, uint8_t width, const uint8_t *gates, size_t gates_length,
+                       uint8_t edition2, uint8_t width2, const uint8_t *gates2, size_t gates2_length, uint8_t *same);
+
+/* The same up to one common phase: where *same is 1, the first circuit's entries turned by *phase eighths (0..7) are the second's, and
+ * by no other number; where *same is 0, no turn does it, and *phase is 0. Refuses as topazfern_same. */
+uint8_t topazfern_common_phase(uint8_t edition, uint8_t width, const uint8_t *gates, size_t gates_length,
+                               uint8_t edition2, uint8_t width2, const uint8_t *gates2, size_t gates2_length,
+                               uint8_t *same, uint8_t *phase);
 
 #ifdef __cplusplus
 }

@@ -193,6 +193,28 @@ static void tableaux(void)
     printf("without its last row: refused %d\n", topazfern_tableau(2, 2, gates, sizeof gates, rows, 3, h, &holds));
 }
 
+/* Two circuits as operators: the same, up to an eighth turn or more, or another. */
+static void compared(const char *what, const uint8_t *first, size_t first_length, const uint8_t *second, size_t second_length)
+{
+    uint8_t same, alike, phase;
+
+    if (topazfern_same(1, 1, first, first_length, 1, 1, second, second_length, &same)
+        || topazfern_common_phase(1, 1, first, first_length, 1, 1, second, second_length, &alike, &phase))
+        return;
+    printf("%s: %s", what, same ? "the same operator\n" : alike ? "the same up to " : "not the same\n");
+    if (!same && alike)
+        printf("%d eighth turns\n", phase);
+}
+
+static void operators(void)
+{
+    static const uint8_t hh[] = {1, 0, 0, 1, 0, 0}, xz[] = {5, 0, 0, 4, 0, 0}, zx[] = {4, 0, 0, 5, 0, 0}, h[] = {1, 0, 0}, s[] = {2, 0, 0};
+
+    compared("H, H and nothing", hh, sizeof hh, hh, 0);
+    compared("X, Z and Z, X", xz, sizeof xz, zx, sizeof zx);
+    compared("H and S", h, sizeof h, s, sizeof s);
+}
+
 int main(void)
 {
     uint8_t book[100], text[TOPAZFERN_LISTING_MAX], added[TOPAZFERN_PATHS_MAX], kind, zero, phase, refused;
@@ -217,5 +239,6 @@ int main(void)
     edits(book, sizeof book, length);
     elements();
     tableaux();
+    operators();
     return 0;
 }

@@ -1,4 +1,5 @@
 pub mod Pair
 pub mod Answer
+pub mod Table
 pub mod OnePhase
 pub mod Only

@@ -2,6 +2,7 @@
 ghost use Rattle.cliffords.specs.Closing.{productNumber, inverseNumber, closingNumber, IsProduct, Undoes, Closes};
 ghost use Rattle.told_cliffords.specs.Told.{ElementTold};
 ghost use Rattle.told_tableau.specs.Told.{VerdictTold, PairTold};
+ghost use Rattle.told_operator.specs.Told.{SameTold, PhaseTold};
 ghost use Rattle.contents_lay.specs.Lay.{ContentsLaid};
 ghost use Rattle.edit_numbers.specs.Volume.{remove, replace, add};
 ghost use Rattle.edit.specs.Edit.{Edits};
@@ -235,6 +236,39 @@ pub extern "C" fn topazfern_tableau_of(
     ensures { λ n. ⌜ PairTold edition width (now (gates .entry)) (now (rows .entry)) (now (h .entry)) n (now (rows .exit)) (now (h .exit)) ⌝ }
 {
     told_tableau::of(edition, width, gates, rows, h)
+}
+
+// Whether two circuits of one width, each of its edition, are the same operator.
+#[no_mangle]
+pub extern "C" fn topazfern_same(
+    edition: u8,
+    width: u8,
+    gates: &[u8],
+    edition2: u8,
+    width2: u8,
+    gates2: &[u8],
+    same: &mut u8,
+) -> u8
+    ensures { λ n. ⌜ SameTold edition width (now (gates .entry)) edition2 width2 (now (gates2 .entry)) (now (same .entry)) n (now (same .exit)) ⌝ }
+{
+    told_operator::same(edition, width, gates, edition2, width2, gates2, same)
+}
+
+// The same up to a common phase: the eighth turns by which the first circuit's entries must be multiplied to give the second's.
+#[no_mangle]
+pub extern "C" fn topazfern_common_phase(
+    edition: u8,
+    width: u8,
+    gates: &[u8],
+    edition2: u8,
+    width2: u8,
+    gates2: &[u8],
+    same: &mut u8,
+    phase: &mut u8,
+) -> u8
+    ensures { λ n. ⌜ PhaseTold edition width (now (gates .entry)) edition2 width2 (now (gates2 .entry)) (now (same .entry)) (now (phase .entry)) n (now (same .exit)) (now (phase .exit)) ⌝ }
+{
+    told_operator::common_phase(edition, width, gates, edition2, width2, gates2, same, phase)
 }
 
 // Body j of the book in the first `length` bytes of an area goes; behind the pointer stands the new length, 0 where refused.
