@@ -102,7 +102,7 @@ def put(path: str, data: bytes) -> None:
     if path == "-":
         sys.stdout.buffer.write(data)
         return
-    target = Path(path)
+    target = Path(os.path.realpath(path))  # a link stays, and what it leads to is written
     special = target.exists() and not target.is_file()
     beside = target if special else target.with_name(f".{target.name}.{os.getpid()}")
     try:
@@ -470,8 +470,11 @@ def ready() -> None:
         return
     if BESIDE.is_file() and not (archive.is_file() and archive.stat().st_mtime > BESIDE.stat().st_mtime):
         return
-    if subprocess.run([sys.executable, str(maker), "--if-needed"], stdout=sys.stderr).returncode:
+    if subprocess.run([sys.executable, str(maker), "--if-needed"], stdout=sys.stderr).returncode == 0:
+        return
+    if not BESIDE.is_file():
         raise Trouble("the library could not be made; the lines above say why")
+    print("topaz: the library could not be made again; the one that is there is used", file=sys.stderr)
 
 
 def done(args: argparse.Namespace) -> int:
