@@ -187,7 +187,7 @@ def make(args: argparse.Namespace) -> int:
     status = FINE
     for number, bodies in enumerate(books):
         out = args.out if len(books) == 1 else str(Path(args.out).with_suffix("")) + f"-{number}" + Path(args.out).suffix
-        book = Book.laid(bodies, editions.pop() if len(editions) == 1 and len(books) == 1 else parts[0][0])
+        book = Book.laid(bodies, parts[0][0])
         put(out, book.data)
         for reason in why.reasons(book):
             status = FOUND
