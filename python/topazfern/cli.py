@@ -102,7 +102,7 @@ def put(path: str, data: bytes) -> None:
     if path == "-":
         sys.stdout.buffer.write(data)
         return
-    target = Path(path)
+    target = Path(os.path.realpath(path))  # a link stays, and what it leads to is written
     special = target.exists() and not target.is_file()
     beside = target if special else target.with_name(f".{target.name}.{os.getpid()}")
     try:
@@ -187,7 +187,7 @@ def make(args: argparse.Namespace) -> int:
     status = FINE
     for number, bodies in enumerate(books):
         out = args.out if len(books) == 1 else str(Path(args.out).with_suffix("")) + f"-{number}" + Path(args.out).suffix
-        book = Book.laid(bodies, editions.pop() if len(editions) == 1 and len(books) == 1 else parts[0][0])
+        book = Book.laid(bodies, parts[0][0])
         put(out, book.data)
         for reason in why.reasons(book):
             status = FOUND
@@ -470,8 +470,11 @@ def ready() -> None:
         return
     if BESIDE.is_file() and not (archive.is_file() and archive.stat().st_mtime > BESIDE.stat().st_mtime):
         return
-    if subprocess.run([sys.executable, str(maker), "--if-needed"], stdout=sys.stderr).returncode:
+    if subprocess.run([sys.executable, str(maker), "--if-needed"], stdout=sys.stderr).returncode == 0:
+        return
+    if not BESIDE.is_file():
         raise Trouble("the library could not be made; the lines above say why")
+    print("topaz: the library could not be made again; the one that is there is used", file=sys.stderr)
 
 
 def done(args: argparse.Namespace) -> int:

@@ -150,7 +150,7 @@ def compared(program: Program, counts: Dict[str, int], start: int, path: str = "
     runs = sum(counts.values())
     spread = next((row.power for row in rows.values() if row.power is not None), None)
     if spread is None:
-        spread = program._some(start, program.count or program.width)
+        spread = program.spread(start)
     possible = [row.counted for row in rows.values() if row.power is not None]
     forbidden = runs - sum(possible)
     chance = 0.5 ** spread

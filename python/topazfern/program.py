@@ -248,8 +248,7 @@ class Program:
         >>> list(Program("", 2, [Gate("h", (0,)), Gate("cx", (0, 1))]).possible())
         [([0, 0], 1), ([1, 1], 1)]
         """
-        count = self.count or self.width
-        spread = self._some(start, count)
+        count, spread = self.count or self.width, self.spread(start)
         if spread > most.bit_length() or 1 << spread > most:
             raise ValueError(f"2^{spread} outputs can occur, more than {most}")
         stack: List[List[int]] = [[]]
@@ -263,11 +262,15 @@ class Program:
             else:
                 yield self._bits(outcomes), power
 
-    def _some(self, start: int, count: int) -> int:
-        """The e of one output that can occur; of Clifford gates all that can occur have the same."""
+    def spread(self, start: int = 0) -> int:
+        """The e of one output that can occur; of Clifford gates all that can occur have the same, and there are two to e of them.
+
+        >>> Program("", 2, [Gate("h", (0,)), Gate("cx", (0, 1))]).spread()
+        1
+        """
         outcomes: List[int] = []
         power = 0
-        for _ in range(count):
+        for _ in range(self.count or self.width):
             told = self.record([*outcomes, 0]).power(start)
             outcomes.append(0 if told is not None else 1)
             power = told if told is not None else power

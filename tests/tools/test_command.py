@@ -150,6 +150,13 @@ class Make(Command):
         self.ends(topaz("make", circuit, "--split", "--out", self.place / "b.book", *words), 0, ["b-0.book: 16 bodies", "b-1.book: 4 bodies"])
         self.ends(topaz("list", self.place / "b-0.book", self.place / "b-1.book"), 0, "2 books: 20 bodies listed")
 
+    def test_a_link_stays(self):
+        real, link = self.file("real.book", b""), self.place / "link.book"
+        link.symlink_to(real)
+        self.ends(topaz("make", GHZ, "--out", link), 0)
+        self.assertTrue(link.is_symlink() and real.read_bytes().startswith(b"QN"))
+        self.ends(topaz("make", GHZ, "--out", self.place), 2, err="cannot be written: Is a directory")
+
     def test_notes(self):
         self.ends(topaz("make", EXAMPLES / "parity.stim", "--out", self.place / "b.book"), 0, err="without effect on the state, and not in the book: TICK")
 
@@ -347,6 +354,18 @@ class Library(Command):
         self.assertEqual((self.place / "called").read_text(), "called\n")
         again = subprocess.run(command, stdout=subprocess.PIPE, stderr=subprocess.PIPE, env=environment, timeout=60)
         self.assertEqual((again.returncode, again.stderr), (0, b""))
+
+    def test_an_old_library_serves(self):
+        """Where the archive is newer and nothing can be linked, the library that is there is used."""
+        clone = self.place / "clone"
+        (clone / "target/staticlib").mkdir(parents=True)
+        shutil.copy(TOPAZ, clone)
+        shutil.copytree(ROOT / "python", clone / "python", ignore=shutil.ignore_patterns("__pycache__"))
+        (clone / "target/staticlib/libtopazfern.a").write_bytes(b"no archive")
+        done = subprocess.run([sys.executable, str(clone / "topaz"), "list", str(EXAMPLES / "zero.book")], stderr=subprocess.PIPE, stdout=subprocess.PIPE, timeout=60)
+        self.assertEqual(done.returncode, 0, done.stderr)
+        self.assertIn(b"the one that is there is used", done.stderr)
+        self.assertIn(b"1 T 3 zero", done.stdout)
 
     def test_fresh_clone_without_rt(self):
         clone = self.place / "clone"
