@@ -5,6 +5,7 @@ use super::print;
 use super::record;
 use super::record::Record;
 use exact::Eighth;
+use exact::Label;
 use exact::Quarter;
 use exact::Slot;
 use state::Rule;
@@ -28,7 +29,7 @@ pub(crate) fn made(r: Record, t: Table, other: Table) -> Table {
     let code = r.code;
     match code {
         0 => {
-            let o = t.new_bit();
+            let o = t.new_bit(Label((r.word % 65536) as u16));
             print::number(o.refusal as u64);
             print::number(o.slot.0 as u64);
             o.table

@@ -1,6 +1,8 @@
 // Digests: numbers that a difference in what a table answers would change.
 use exact::Amount;
 use exact::Answer;
+use exact::Slot;
+use labels::Labels;
 use state::State;
 use table::Table;
 use ties::Tie;
@@ -54,7 +56,19 @@ pub(crate) fn places(places: [u8; 64]) -> u64 {
     h
 }
 
-// Every field of a table.
+// The labels of all slots.
+pub(crate) fn labels(ls: Labels) -> u64 {
+    let mut h: u64 = 0;
+    let mut v: usize = 0;
+    while v < 64 {
+        let l = ls.at(Slot(v));
+        h = try_draw::word(h, l.0 as u64);
+        v += 1;
+    }
+    h
+}
+
+// Every field of a table's state.
 pub(crate) fn fields(s: State) -> u64 {
     let f = s.form;
     let t = s.ties;

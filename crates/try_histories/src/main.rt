@@ -1,5 +1,5 @@
 // Calls read from standard input and made on eight tables. For each a line: the number of refusal, the slot of a new bit, the case of a sum or the places of a join, the spread, whether the fields
-// are what they were, whether the table is normal and without stray bits, and a digest of its entries. The script tests/try_histories.py writes the calls, and from plain sums over bit
+// are what they were, whether the table is normal and without stray bits, and digests of its labels and of its entries. The script tests/try_histories.py writes the calls, and from plain sums over bit
 // values what must be printed.
 mod call;
 mod case;
@@ -28,10 +28,12 @@ fn show(before: Table, t: Table, look: u64, n: u64) {
     let s = before.state;
     let after = t.state;
     let spread = t.spread();
-    let kept = digest::fields(s) == digest::fields(after);
+    let kept = digest::fields(s) == digest::fields(after)
+        && digest::labels(before.labels) == digest::labels(t.labels);
     print::spread(spread);
     print::number(if kept { 1 } else { 0 });
     print::number(tidy(t));
+    print::number(digest::labels(t.labels) % 4294967296);
     let h = try_draw::word(0, after.live);
     print::last(digest::entries(h, t, look, n));
 }
@@ -53,8 +55,10 @@ fn step(t: Table, other: Table, r: Record, look: u64, n: u64) -> Table {
         9 => t,
         _ => {
             let s = t.state;
+            let ls = t.labels;
             Table {
                 state: put::field(s, r),
+                labels: put::label(ls, r),
             }
         }
     }

@@ -2,8 +2,11 @@
 use super::record;
 use super::record::Record;
 use exact::Eighth;
+use exact::Label;
 use exact::Quarter;
+use exact::Slot;
 use form::Form;
+use labels::Labels;
 use state::State;
 use ties::Ties;
 
@@ -46,7 +49,15 @@ fn ties(mut t: Ties, r: Record) -> Ties {
     }
 }
 
-// The field of a code from 10 on.
+// The label of a slot, for code 18.
+pub(crate) fn label(ls: Labels, r: Record) -> Labels {
+    if r.code == 18 {
+        return ls.put(Slot(r.place as usize), Label((r.word % 65536) as u16));
+    }
+    ls
+}
+
+// The field of a code from 10 to 17.
 pub(crate) fn field(mut t: State, r: Record) -> State {
     let f = t.form;
     let s = t.ties;
@@ -69,9 +80,10 @@ pub(crate) fn field(mut t: State, r: Record) -> State {
             t.form = form(f, r);
             t
         }
-        _ => {
+        16..=17 => {
             t.ties = ties(s, r);
             t
         }
+        _ => t,
     }
 }

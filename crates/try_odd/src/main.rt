@@ -1,8 +1,10 @@
 // Two odd sums and nothing else, so that the stack of one can be read off the program (tests/stack): slot 0, with slots 1 and 2 for neighbours, has the turns that standard input says.
+use exact::Label;
 use exact::Power;
 use exact::Quarter;
 use exact::Slot;
 use form::Form;
+use labels::Labels;
 use state::State;
 use table::Summed;
 use table::Table;
@@ -23,6 +25,7 @@ fn three(a: Quarter) -> Table {
             form: f,
             ties: Ties::none(),
         },
+        labels: Labels::rising(Label(0), 3),
     }
 }
 

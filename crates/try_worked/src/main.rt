@@ -4,6 +4,7 @@ use doubles::Doubles;
 use exact::Amount;
 use exact::Answer;
 use exact::Eighth;
+use exact::Label;
 use exact::Power;
 use exact::Quarter;
 use exact::Slot;
@@ -52,9 +53,9 @@ fn outcome(c: Summed) -> Answer {
     t.entry(0)
 }
 
-// A table with one bit more.
+// A table with one bit more, whose label is how many there were.
 fn wider(t: Table) -> Table {
-    let n = t.new_bit();
+    let n = t.new_bit(Label(bits::count(t.state.live) as u16));
     n.table
 }
 
