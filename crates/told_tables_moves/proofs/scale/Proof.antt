@@ -44,7 +44,7 @@ returns-2 c =
     let e = d .before .before .before in
     let k = e .before .before .before .before in
     let made : ScaleCall (held (e .before .read .result)) (k .args .m) (k .args .p) (d .scale .result)
-        = subst (λ (z : ℤ). ScaleCall (held (e .before .read .result)) z (k .args .p) (d .scale .result)) (same k) (d .scale .ensures) in
+    = subst (λ (z : ℤ). ScaleCall (held (e .before .read .result)) z (k .args .p) (d .scale .result)) (same k) (d .scale .ensures) in
     called-given _ _ _ _ _ (e .before .read .result) (e .before .read .ensures) (e .if1 .left) _ _
     (put-answer _ _ _ (λ (x : Changed). x .refusal) (λ x. x .table) (d .scale .result) _ made (b .put-back .ensures))
 
