@@ -1,2 +1,4 @@
 pub mod Bytes
 pub mod Signed
+pub mod Part
+pub mod Segment

@@ -33,7 +33,7 @@ fn signed_bits(s: i32) -> u16
 }
 
 // The zero mark, the phase and the power at the front of the part.
-fn write_head(part: &mut [u8], zero: bool, c: Eighth, s: Power)
+pub fn write_head(part: &mut [u8], zero: bool, c: Eighth, s: Power)
     requires { ⌜ InRange (s .0) × (4 ≤ length (now part)) ⌝ }
     ensures { λ _. ⌜ now (part .exit) ≡ front (now (part .entry)) (headBytes zero (c .0) (s .0)) ⌝ }
 {
@@ -43,7 +43,7 @@ fn write_head(part: &mut [u8], zero: bool, c: Eighth, s: Power)
 }
 
 // The turns of the first `n` slots at the front of the part.
-fn write_turns(part: &mut [u8], f: Form, n: usize)
+pub fn write_turns(part: &mut [u8], f: Form, n: usize)
     requires { ⌜ n ≤ length (now part) ⌝ }
     ensures { λ _. ⌜ now (part .exit) ≡ front (now (part .entry)) (joined n (λ i. turnAt f i ∷ [])) ⌝ }
 {
@@ -56,7 +56,7 @@ fn write_turns(part: &mut [u8], f: Form, n: usize)
 }
 
 // The rows of the first `n` slots at the front of the part.
-fn write_rows(part: &mut [u8], f: Form, n: usize)
+pub fn write_rows(part: &mut [u8], f: Form, n: usize)
     requires { ⌜ (n ≤ 64) × (8 * n ≤ length (now part)) ⌝ }
     ensures { λ _. ⌜ now (part .exit) ≡ front (now (part .entry)) (joined n (λ i. le 8 (rowAt f i))) ⌝ }
 {

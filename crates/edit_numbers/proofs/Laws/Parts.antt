@@ -16,7 +16,7 @@ use Rattle.contents_lay.proofs.Laws.Laid.{length-laid}
 use Rattle.body_fields.specs.Fields.{joined}
 use Rattle.book.specs.Book.{bytesOf}
 use Rattle.theorem_round_trip.specs.Book.{laidBook}
-use Rattle.theorem_round_trip.proofs.Laws.Segment.{segment}
+use Rattle.body_fields.proofs.Laws.Segment.{segment}
 use Rattle.edit_numbers.specs.Volume.{Volume, remove, replace, add, volumeOf, closedUp, skip, swapped, edited}
 use Rattle.edit_numbers.specs.Inner.Parts.{Parts}
 use Rattle.edit_numbers.proofs.Laws.Run.{start-suc, start-up, run, run-first}

@@ -11,7 +11,7 @@ use Rattle.contents.proofs.Laws.Test.{start-zero, start-next}
 use Rattle.contents.proofs.Laws.Good.{good}
 use Rattle.body_fields.specs.Fields.{joined}
 use Rattle.book.specs.Book.{bytesOf}
-use Rattle.theorem_round_trip.proofs.Laws.Segment.{segment, segment-next}
+use Rattle.body_fields.proofs.Laws.Segment.{segment, segment-next}
 
 module _ (bs : List ℕ) where
   pub start-suc : (j : ℕ) → bodyStart bs (suc j) ≡ bodyStart bs j + lengthOf bs j

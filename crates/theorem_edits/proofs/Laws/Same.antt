@@ -19,7 +19,7 @@ use Rattle.contents.proofs.Laws.Good.{good}
 use Rattle.contents_lay.specs.Lay.{headerBytes, entryBytes, laidStart, entriesBytes, laidBytes}
 use Rattle.book.specs.Book.{bytesOf, BookNumber}
 use Rattle.book.proofs.Laws.Number.{contents-good}
-use Rattle.theorem_round_trip.proofs.Laws.Segment.{segment, segment-next, front-then, segment-byte}
+use Rattle.body_fields.proofs.Laws.Segment.{segment, segment-next, front-then, segment-byte}
 use Rattle.edit_numbers.specs.Volume.{Volume, Edit, replace, volumeOf, swapped, edited, closedUp}
 use Rattle.edit_numbers.specs.Number.{BookEdit, sizeAfter}
 use Rattle.edit_numbers.proofs.Laws.Run.{run-first}

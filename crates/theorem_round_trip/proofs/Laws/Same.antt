@@ -24,22 +24,11 @@ use Rattle.body_read.specs.declared.Reading.{Reading}
 use Rattle.body_bytes.specs.Body.{signed16, markOf, phaseOf, powerOf, turnOf, rowOf, tieCount, maskOf, sideOf, bodyFault}
 use Rattle.body_read.specs.Table.{formOf, tiesOf, tableOf}
 use Rattle.body_read.specs.Read.{Reads}
-use Rattle.body_bytes.proofs.Laws.Signed.{signed-low, signed-high}
 use Rattle.body_bytes.proofs.Laws.Fine.{Fine, fine}
 use Rattle.body_read.proofs.Laws.Table.{live-is, turn-is, row-is, tie-is, side-is}
 use Rattle.theorem_round_trip.specs.Same.{WrittenAgain}
-use Rattle.theorem_round_trip.proofs.Laws.Segment.{segment, segment-next, front-then, segment-byte, segment-joined}
-
--- ---- the zero mark and the power
-mark-same : (b : ℕ) → b < 2 → mark (eqb b 1) ≡ b
-mark-same zero h = refl
-mark-same (suc zero) h = refl
-mark-same (suc (suc b)) h = absurd (omega arith)
-
-signed-same : (w : ℕ) → w < 65536 → ofSigned16 (signed16 w) ≡ w
-unfolding ofSigned16
-signed-same w h =
-    ⊎-elim (λ (l : w < 32768). ap ofSigned16 (signed-low w l)) (λ (l : 32768 ≤ w). ap ofSigned16 (signed-high w l h) ∙ omega arith) (split w 32768)
+use Rattle.image.proofs.Laws.Signed.{mark-same, signed-same}
+use Rattle.body_fields.proofs.Laws.Segment.{segment, segment-next, front-then, segment-byte, segment-joined}
 
 -- ---- the fields, each the segment that stated it
 module _ (n : ℕ) (bs : List ℕ) (small : (i : ℕ) → byteAt bs i < 256) (f : Fine n bs) where

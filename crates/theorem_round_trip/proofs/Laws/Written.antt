@@ -4,7 +4,7 @@ use mathlib.Core.List.{List, [], _∷_, _++_}
 use mathlib.Core.Path.{_≡_, refl, sym, ap, subst, _∙_}
 use Prim.Native.Nat.{ℕ, zero, suc, _+_, _-_, _*_, _^_, _≤_, _<_}
 use native.Mathlib.Omega.{arith}
-use lib.IntN.{ℤ, pos, negsuc}
+use lib.IntN.{ℤ}
 use lib.ListN.{length}
 use Rattle.fields.specs.Bytes.{byteAt, le}
 use Rattle.fields.proofs.Laws.Front.{length-le}
@@ -12,19 +12,8 @@ use Rattle.state.specs.Normal.{InRange}
 use Rattle.body_fields.specs.Fields.{joined, mark, ofSigned16, headBytes, tieBytes, fieldBytes}
 use Rattle.body_fields.proofs.Laws.Bytes.{toTurns, toRows, toCount, toTies, length-turns, length-rows, length-count, length-ties, length-tie, fields-are}
 use Rattle.body_bytes.specs.Body.{signed16, markOf, phaseOf, powerOf, turnOf, rowOf, tieCount, maskOf, sideOf}
-use Rattle.body_bytes.proofs.Laws.Signed.{signed-low, signed-high}
-use Rattle.theorem_round_trip.proofs.Laws.Part.{Part, part-at, part-own, part-left, part-right, part-joined, part-byte, part-number}
-
--- ---- the power
-signed-back : (s : ℤ) → InRange s → s ≡ signed16 (ofSigned16 s)
-unfolding ofSigned16
-signed-back (pos n) h = sym (signed-low n (omega arith))
-signed-back (negsuc n) h = sym (signed-high (65536 - suc n) (omega arith) (omega arith) ∙ ap negsuc (omega arith))
-
-signed-small : (s : ℤ) → InRange s → ofSigned16 s < 256 ^ 2
-unfolding ofSigned16
-signed-small (pos n) h = omega arith
-signed-small (negsuc n) h = omega arith
+use Rattle.image.proofs.Laws.Signed.{signed-back, signed-small}
+use Rattle.body_fields.proofs.Laws.Part.{Part, part-at, part-own, part-left, part-right, part-joined, part-byte, part-number}
 
 module _ (zeroed : Bool) (c : ℕ) (s : ℤ) (n : ℕ) (a b : ℕ → ℕ) (k : ℕ) (m r : ℕ → ℕ) where
   abbrev pub bytes : List ℕ

@@ -1,0 +1,5 @@
+pub mod Signed
+pub mod Bytes
+pub mod Places
+pub mod Back
+pub mod Same

@@ -1,0 +1,4 @@
+pub mod Fill
+pub mod Parts
+pub mod Read
+pub mod Only
