@@ -183,7 +183,7 @@ class Items:
 
     def _place(self, number: int) -> str:
         """The gate that a refusal is about: the first at which the gates so far are refused."""
-        if number not in PER_GATE or self._number(b"") != 0:
+        if number not in PER_GATE or self._number(b"") != 0 or self._number(bytes(self.gates)) != number:
             return ""
         low, high = 0, len(self)  # the first `low` items are taken, the first `high` are not
         while high - low > 1:
