@@ -88,7 +88,7 @@ numberOf Side = badBody
 -- 12: "a table handed in or read is not normal"
 numberOf NotNormal = notNormal
 
--- ---- a fault: "the gate or field at fault" as its item and its byte
+-- ---- a fault: the gate or field at fault, as its item and its byte
 abbrev pub found : Cause → ℕ → ℕ → Found
 found c i b = record { cause = c; item = i; byte = b }
 

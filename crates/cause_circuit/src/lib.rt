@@ -7,7 +7,15 @@ use cause::Cause;
 use cause::Found;
 
 // The first fault before the items: their length and count, the width, whose byte stands in the contents, and the strings.
-fn head(width: u8, input: u32, output: u32, gates: &[u8], from: usize, at: usize, listed: usize) -> Found
+fn head(
+    width: u8,
+    input: u32,
+    output: u32,
+    gates: &[u8],
+    from: usize,
+    at: usize,
+    listed: usize,
+) -> Found
     requires { ⌜ (length (now gates) ≤ 60000) × (from ≤ 60000) × (at ≤ 60000) ⌝ }
     ensures { λ r. ⌜ r ≡ headFound from at listed width input output (now (gates .entry)) ⌝ }
 {
@@ -68,7 +76,16 @@ pub fn circuit(edition: u8, part: &[u8], width: u8, from: usize, listed: usize) 
     }
     let input = fields::read_u32(part, 0);
     let output = fields::read_u32(part, 4);
-    tested(edition, width, input, output, &part[8..], from, from + 8, listed)
+    tested(
+        edition,
+        width,
+        input,
+        output,
+        &part[8..],
+        from,
+        from + 8,
+        listed,
+    )
 }
 
 // The first fault of a record's body that starts at a byte of a book.
@@ -78,7 +95,16 @@ pub fn record(part: &[u8], width: u8, from: usize, listed: usize) -> Found
 {
     if 4 <= part.len() {
         let input = fields::read_u32(part, 0);
-        return tested(gates::RECORD, width, input, 0, &part[4..], from, from + 4, listed);
+        return tested(
+            gates::RECORD,
+            width,
+            input,
+            0,
+            &part[4..],
+            from,
+            from + 4,
+            listed,
+        );
     }
     cause::fault(Cause::Strings, 0, from)
 }

@@ -5,13 +5,14 @@ use mathlib.Core.Path.{_≡_}
 use Prim.Native.Nat.{ℕ, _+_, _*_, _^_}
 use lib.Dec.{eqb, ltb, leb}
 use lib.ListN.{length}
+use Rattle.exact.specs.Refusal.{accepted}
 use Rattle.state.specs.Number.{outside}
 use Rattle.state.specs.Normal.{Normal}
 use Rattle.body_bytes.specs.Body.{markOf, phaseOf, powerOf, tieCount, maskOf, sideOf, turnFault, rowFault, bodyFault}
 use Rattle.body_read.specs.Table.{tableOf}
 use Rattle.cause.specs.declared.Cause.the-variants.{TableWidth, Length, ManyTies, ZeroMark, Phase, PowerOut, Turn, Row, Mask, Side, NotNormal}
 use Rattle.cause.specs.declared.Found.{Found}
-use Rattle.cause.specs.Cause.{found, sound, _finds_, firstFound, firstBelow, inOrder}
+use Rattle.cause.specs.Cause.{found, sound, foundNumber, _finds_, firstFound, firstBelow, inOrder}
 
 -- "body length wrong, .. table width above 64, more ties than n": a wrong length is at the body's end, the width at its byte in the contents
 unfoldable pub sizeFound : ℕ → ℕ → ℕ → List ℕ → Found
@@ -64,3 +65,5 @@ pub record TableFound (from wat n : ℕ) (bs : List ℕ) (f : Found) : Type 0 wh
   pub fault : bodyFault n bs ≡ true → f ≡ bodyFound from wat n bs
   pub broken : bodyFault n bs ≡ false → (Normal (tableOf n bs) → ⊥) → f ≡ found NotNormal 0 from
   pub good : bodyFault n bs ≡ false → Normal (tableOf n bs) → f ≡ sound
+  -- no fault: the table is normal
+  pub normal : foundNumber f ≡ accepted → Normal (tableOf n bs)

@@ -65,7 +65,7 @@ tested-number from at wat d width input output gs =
     let blocks = blocksFound at gs in
     let last : foundNumber (inOrder (blocks ∷ [])) ≡ blocksNumber gs = order-number blocks [] ∙ ap₂ (λ (x y : ℕ). cond (eqb y 0) x y) order-last (blocks-number at gs) ∙ alone (blocksNumber gs) in
     let next : foundNumber (inOrder (items ∷ blocks ∷ [])) ≡ cond (not (eqb (gatesNumber d width gs (itemCount gs)) 0)) (gatesNumber d width gs (itemCount gs)) (blocksNumber gs) =
-        order-number items (blocks ∷ []) ∙ ap₂ (λ (x y : ℕ). cond (eqb y 0) x y) last (items-number at d width gs (itemCount gs)) ∙ turned (eqb (gatesNumber d width gs (itemCount gs)) 0) (gatesNumber d width gs (itemCount gs)) (blocksNumber gs) in
+    order-number items (blocks ∷ []) ∙ ap₂ (λ (x y : ℕ). cond (eqb y 0) x y) last (items-number at d width gs (itemCount gs)) ∙ turned (eqb (gatesNumber d width gs (itemCount gs)) 0) (gatesNumber d width gs (itemCount gs)) (blocksNumber gs) in
     order-number _ (items ∷ blocks ∷ [])
     ∙ after (not (eqb (length gs % 3) 0)) (ltb 4096 (itemCount gs)) (ltb width 1) (ltb 31 width) (leb (2 ^ width) input) (leb (2 ^ width) output) (gatesNumber d width gs (itemCount gs)) (blocksNumber gs) _ _
     (head-tests (not (eqb (length gs % 3) 0)) (ltb 4096 (itemCount gs)) (ltb width 1) (ltb 31 width) (leb (2 ^ width) input) (leb (2 ^ width) output) (itemCount gs) (at + 3 * itemCount gs) (at + 12288) wat from (from + 4)) next

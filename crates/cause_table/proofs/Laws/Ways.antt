@@ -18,7 +18,7 @@ use Rattle.body_read.specs.declared.Reading.{Reading}
 use Rattle.body_read.specs.Read.{Reads}
 use Rattle.cause.specs.declared.Cause.the-variants.{TableWidth, Length, ManyTies, ZeroMark, Phase, PowerOut, Turn, Row, Mask, Side, NotNormal}
 use Rattle.cause.specs.declared.Found.{Found}
-use Rattle.cause.specs.Cause.{found, sound, foundNumber, firstBelow}
+use Rattle.cause.specs.Cause.{numberOf, found, sound, foundNumber, firstBelow}
 use Rattle.cause.proofs.Laws.First.{Plain, pick, pass, no-more, order-here, order-next, order-one, plain-below}
 use Rattle.cause_table.specs.Table.{sizeFound, headFound, turnFound, rowFound, tieFound, bodyFound, TableFound}
 use Rattle.cause_table.proofs.Laws.Number.{plain-tie, body-number}
@@ -136,6 +136,7 @@ module _ (from wat n : ℕ) (bs : List ℕ) (r f : Found) (e : f ≡ bodyFound f
     fault = λ h. e;
     broken = λ h no. absurd (ne (eleven false h));
     good = λ h yes. absurd (ne (eleven false h));
+    normal = λ z. absurd (ne z);
   }
 
   module _ (z : foundNumber f ≡ 0) (g : Reading) (G : Reads n bs g) where
@@ -150,10 +151,12 @@ module _ (from wat n : ℕ) (bs : List ℕ) (r f : Found) (e : f ≡ bodyFound f
         go false h = refl
 
     pub table-broken : g .refusal ≢ 0 → r ≡ found NotNormal 0 from → TableFound from wat n bs r
+    unfolding numberOf
     table-broken ne h = record {
       fault = λ b. absurd (clear b);
       broken = λ b no. h;
       good = λ b yes. absurd (ne (ap (λ (x : Reading). x .refusal) (G .sound b yes)));
+      normal = λ k. absurd (let q : _≡_ {A = ℕ} 12 0 = sym (ap foundNumber h) ∙ k in omega arith);
     }
 
     pub table-good : g .refusal ≡ 0 → r ≡ sound → TableFound from wat n bs r
@@ -161,4 +164,5 @@ module _ (from wat n : ℕ) (bs : List ℕ) (r f : Found) (e : f ≡ bodyFound f
       fault = λ b. absurd (clear b);
       broken = λ b no. absurd (no (G .normal zero));
       good = λ b yes. h;
+      normal = λ k. G .normal zero;
     }

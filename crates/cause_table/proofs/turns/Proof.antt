@@ -48,7 +48,7 @@ loop-less : tie.Need-loop-less Inv-loop μ-loop
 loop-less c = search needs
 
 loop-again : tie.Need-loop-again Inv-loop μ-loop
-loop-again c = let a = c .before .before .before .before .before .args in let l = c .before .before .before .loop in let f = turnFound (a .from) (a .bs .now) in (omega arith, below-next f (l .v) (l .inv .1) (turn-in (a .from) (a .bs .now) (l .v) (omega arith)))
+loop-again c = let a = c .before .before .before .before .before .args in let l = c .before .before .before .loop in let f = turnFound (a .from) (a .bs .now) in (omega arith, below-next f (l .v) (l .inv .1) (turn-in (a .from) (a .bs .now) (l .v) sound (omega arith)))
 
 sound-requires : tie.Need-sound-requires Inv-loop μ-loop
 sound-requires c κs = search needs

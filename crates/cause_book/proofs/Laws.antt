@@ -1,0 +1,4 @@
+pub mod Body
+pub mod Number
+pub mod Only
+pub mod Ways
