@@ -127,6 +127,59 @@ uint8_t topazfern_replace(uint8_t *area, size_t area_length, size_t length, size
 uint8_t topazfern_add(uint8_t *area, size_t area_length, size_t length, uint8_t kind, uint8_t width,
                       const uint8_t *body, size_t body_length, size_t *new_length);
 
+/* Why a book is refused: its first fault in the documents' order, or that of body j whatever the other bodies are. The answer is the number
+ * of refusal, 0 for none (then *body is 16 and the others are 0); all four are always written.
+ * *body: the body, 16 where the fault is of the header, the contents or of none. *item: what is at fault, counted from 0: the entry for a
+ * kind, start or end; the gate or mark, marks included; the slot for a turn or row; the tie for a mask or r; 0 where it is none of these.
+ * *byte: the byte of the book at fault; a width is at its byte in the contents, and what is too short is at its end.
+ * *cause: which cause of the number it is, as follows. */
+enum {
+    TOPAZFERN_SOUND = 0,
+    TOPAZFERN_SHORT = 1,          /* 9: the book has fewer than 4 bytes */
+    TOPAZFERN_LONG = 2,           /* 9: the book has more than 60,000 bytes */
+    TOPAZFERN_LETTERS = 3,        /* 9: the book does not begin with the bytes 51 4E */
+    TOPAZFERN_EDITION = 4,        /* 9: the edition is neither 1 nor 2 */
+    TOPAZFERN_COUNT = 5,          /* 9: the count of bodies is above 16 */
+    TOPAZFERN_CONTENTS = 6,       /* 10: the contents are too short for the count of bodies */
+    TOPAZFERN_KIND = 7,           /* 10: the kind of the body is unknown in this edition */
+    TOPAZFERN_START = 8,          /* 10: the body does not start where it must */
+    TOPAZFERN_END = 9,            /* 10: the body ends beyond the book */
+    TOPAZFERN_LAST_END = 10,      /* 10: the book goes on after its last body */
+    TOPAZFERN_NO_BODY = 11,       /* 14: the book has no body of that number */
+    TOPAZFERN_STRINGS = 12,       /* 11: the body is too short for its strings */
+    TOPAZFERN_THREES = 13,        /* 11: the gate bytes are not in threes */
+    TOPAZFERN_MANY = 14,          /* 11: there are more than 4,096 gates and marks */
+    TOPAZFERN_WIRES = 15,         /* 6: the width is not 1 to 31 */
+    TOPAZFERN_INPUT = 16,         /* 8: the input string has a bit at or above the width */
+    TOPAZFERN_OUTPUT = 17,        /* 8: the output string has a bit at or above the width */
+    TOPAZFERN_CODE = 18,          /* 7: the gate code is unknown */
+    TOPAZFERN_WIRE = 19,          /* 6: the wire is not below the width */
+    TOPAZFERN_SECOND_WIRE = 20,   /* 6: the second wire is not below the width */
+    TOPAZFERN_SAME_WIRE = 21,     /* 2: the gate names the same wire twice */
+    TOPAZFERN_SECOND_BYTE = 22,   /* 3: the second byte of a one-wire gate is not 0 */
+    TOPAZFERN_OUTCOME = 23,       /* 3: the outcome is neither 0 nor 1 */
+    TOPAZFERN_NO_COUNT = 24,      /* 3: the block has a count of 0 */
+    TOPAZFERN_STRAY = 25,         /* 3: the mark has a stray byte */
+    TOPAZFERN_DEEP = 26,          /* 16: the block stands more than 8 deep */
+    TOPAZFERN_UNOPENED = 27,      /* 16: the mark closes a block that is not open */
+    TOPAZFERN_EMPTY = 28,         /* 16: the mark closes an empty block */
+    TOPAZFERN_UNCLOSED = 29,      /* 16: the block is not closed */
+    TOPAZFERN_EXPANSION = 30,     /* 16: the expansion has more than 65,536 gates */
+    TOPAZFERN_TABLE_WIDTH = 31,   /* 11: the width is above 64 */
+    TOPAZFERN_LENGTH = 32,        /* 11: the length of the body is wrong */
+    TOPAZFERN_MANY_TIES = 33,     /* 11: there are more ties than the width */
+    TOPAZFERN_ZERO_MARK = 34,     /* 11: the zero mark is above 1 */
+    TOPAZFERN_PHASE = 35,         /* 11: the phase c is above 7 */
+    TOPAZFERN_POWER_OUT = 36,     /* 11: the power s is beyond 2,000 or -2,000 */
+    TOPAZFERN_TURN = 37,          /* 11: the turn is above 3 */
+    TOPAZFERN_ROW = 38,           /* 11: the row has a bit at or above the width */
+    TOPAZFERN_MASK = 39,          /* 11: the mask has a bit at or above the width */
+    TOPAZFERN_SIDE = 40,          /* 11: the r of the tie is above 1 */
+    TOPAZFERN_NOT_NORMAL = 41,    /* 12: the table is not normal */
+};
+uint8_t topazfern_why(const uint8_t *book, size_t book_length, size_t *body, size_t *item, size_t *byte, uint8_t *cause);
+uint8_t topazfern_why_body(const uint8_t *book, size_t book_length, size_t j, size_t *body, size_t *item, size_t *byte, uint8_t *cause);
+
 /* The 24 one-wire Cliffords by their numbers (docs/cliffords.md), modulo global phase. *element is the answer, 0..23.
  * The product: i, then j. The inverse: what undoes i. Both refuse 3 for a number above 23. */
 uint8_t topazfern_product(uint8_t i, uint8_t j, uint8_t *element);

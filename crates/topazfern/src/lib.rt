@@ -10,6 +10,7 @@ ghost use Rattle.listing.specs.Listing.{Listed, ListedStrict};
 ghost use Rattle.path_listing.specs.Listing.{PathsListed};
 ghost use Rattle.told.specs.Told.{behind, odds, six};
 ghost use Rattle.told_paths.specs.Told.{five, PathsTold};
+ghost use Rattle.told_causes.specs.Told.{four, BookTold, BodyTold};
 ghost use Rattle.topazfern.specs.Calls.{AmplitudeTold, RecordTold, EntryTold, WriteTold, ReadTold, StrictReadTold};
 
 // The amplitude of a circuit of an edition.
@@ -322,4 +323,33 @@ pub extern "C" fn topazfern_add(
     let m = r.length;
     *bytes = m;
     r.refusal
+}
+
+// Why a book is refused: its first fault in the documents' order, 0 for none, with its body, item, byte and cause behind the pointers.
+#[no_mangle]
+pub extern "C" fn topazfern_why(
+    book: &[u8],
+    body: &mut usize,
+    item: &mut usize,
+    byte: &mut usize,
+    cause: &mut u8,
+) -> u8
+    ensures { λ n. ⌜ BookTold (now (book .entry)) n (four (now (body .exit)) (now (item .exit)) (now (byte .exit)) (now (cause .exit))) ⌝ }
+{
+    told_causes::why(book, body, item, byte, cause)
+}
+
+// Why body j of a book is refused, whatever the other bodies are.
+#[no_mangle]
+pub extern "C" fn topazfern_why_body(
+    book: &[u8],
+    j: usize,
+    body: &mut usize,
+    item: &mut usize,
+    byte: &mut usize,
+    cause: &mut u8,
+) -> u8
+    ensures { λ n. ⌜ BodyTold (now (book .entry)) j n (four (now (body .exit)) (now (item .exit)) (now (byte .exit)) (now (cause .exit))) ⌝ }
+{
+    told_causes::why_body(book, j, body, item, byte, cause)
 }
