@@ -11,6 +11,9 @@ ghost use Rattle.path_listing.specs.Listing.{PathsListed};
 ghost use Rattle.told.specs.Told.{behind, odds, six};
 ghost use Rattle.told_paths.specs.Told.{five, PathsTold};
 ghost use Rattle.told_causes.specs.Told.{four, BookTold, BodyTold};
+ghost use Rattle.told_tables.specs.Calls.{FreshTold, NewBitTold, TurnTold, ScaleTold, TieTold, SumTold, FixTold};
+ghost use Rattle.told_tables_asks.specs.Asks.{EntryAsked, spreading, SpreadAsked};
+ghost use Rattle.told_tables_books.specs.Books.{TableWriteTold};
 ghost use Rattle.topazfern.specs.Calls.{AmplitudeTold, RecordTold, EntryTold, WriteTold, ReadTold, StrictReadTold};
 
 // The amplitude of a circuit of an edition.
@@ -352,4 +355,95 @@ pub extern "C" fn topazfern_why_body(
     ensures { λ n. ⌜ BodyTold (now (book .entry)) j n (four (now (body .exit)) (now (item .exit)) (now (byte .exit)) (now (cause .exit))) ⌝ }
 {
     told_causes::why_body(book, j, body, item, byte, cause)
+}
+
+// A table in 1,293 lent bytes: no live bits, entry 1, whatever the bytes were.
+#[no_mangle]
+pub extern "C" fn topazfern_table_fresh(table: &mut [u8]) -> u8
+    ensures { λ n. ⌜ FreshTold (now (table .entry)) n (now (table .exit)) ⌝ }
+{
+    told_tables_bits::fresh(table)
+}
+
+// The lowest free slot of a table becomes live with a label; behind the pointer stands that slot.
+#[no_mangle]
+pub extern "C" fn topazfern_table_new_bit(table: &mut [u8], label: u16, slot: &mut usize) -> u8
+    ensures { λ n. ⌜ NewBitTold (now (table .entry)) label (now (slot .entry)) n (now (table .exit)) (now (slot .exit)) ⌝ }
+{
+    told_tables_bits::new_bit(table, label, slot)
+}
+
+// Times i^(k·x_v) where u and v are one slot; else k is 0 or 2, and 2 is the sign.
+#[no_mangle]
+pub extern "C" fn topazfern_table_turn(table: &mut [u8], u: usize, v: usize, k: u8) -> u8
+    ensures { λ n. ⌜ TurnTold (now (table .entry)) u v k n (now (table .exit)) ⌝ }
+{
+    told_tables_moves::turn(table, u, v, k)
+}
+
+// Times √2^m · ω^p.
+#[no_mangle]
+pub extern "C" fn topazfern_table_scale(table: &mut [u8], m: i32, p: u8) -> u8
+    ensures { λ n. ⌜ ScaleTold (now (table .entry)) m p n (now (table .exit)) ⌝ }
+{
+    told_tables_moves::scale(table, m, p)
+}
+
+// Entries where the parity of a mask is not r become 0.
+#[no_mangle]
+pub extern "C" fn topazfern_table_tie(table: &mut [u8], mask: u64, r: u8) -> u8
+    ensures { λ n. ⌜ TieTold (now (table .entry)) mask r n (now (table .exit)) ⌝ }
+{
+    told_tables_moves::tie(table, mask, r)
+}
+
+// Slot v summed over 0 and 1, and freed; behind the pointer stands the case that applied.
+#[no_mangle]
+pub extern "C" fn topazfern_table_sum(table: &mut [u8], v: usize, rule: &mut u8) -> u8
+    ensures { λ n. ⌜ SumTold (now (table .entry)) v (now (rule .entry)) n (now (table .exit)) (now (rule .exit)) ⌝ }
+{
+    told_tables_bits::sum(table, v, rule)
+}
+
+// x_v set to r, and v freed.
+#[no_mangle]
+pub extern "C" fn topazfern_table_fix(table: &mut [u8], v: usize, r: u8) -> u8
+    ensures { λ n. ⌜ FixTold (now (table .entry)) v r n (now (table .exit)) ⌝ }
+{
+    told_tables_moves::fix(table, v, r)
+}
+
+// The entry of a table at an assignment of its live bits.
+#[no_mangle]
+pub extern "C" fn topazfern_table_entry(
+    table: &[u8],
+    x: u64,
+    zero: &mut u8,
+    power: &mut i32,
+    phase: &mut u8,
+) -> u8
+    ensures { λ n. ⌜ EntryAsked (now (table .entry)) x (behind (now (zero .entry)) (now (power .entry)) (now (phase .entry))) n (behind (now (zero .exit)) (now (power .exit)) (now (phase .exit))) ⌝ }
+{
+    told_tables_asks::entry(table, x, zero, power, phase)
+}
+
+// How many entries of a table are not zero: none, or two to an exponent.
+#[no_mangle]
+pub extern "C" fn topazfern_table_spread(table: &[u8], none: &mut u8, e: &mut usize) -> u8
+    ensures { λ n. ⌜ SpreadAsked (now (table .entry)) (spreading (now (none .entry)) (now (e .entry))) n (spreading (now (none .exit)) (now (e .exit))) ⌝ }
+{
+    told_tables_asks::spread(table, none, e)
+}
+
+// The body of a table, without its labels, in an area from a start on.
+#[no_mangle]
+pub extern "C" fn topazfern_table_write(
+    table: &[u8],
+    area: &mut [u8],
+    start: usize,
+    bytes: &mut usize,
+) -> u8
+    ensures { λ n. ⌜ TableWriteTold (now (table .entry)) (now (area .entry)) start n (now (bytes .exit)) (now (area .exit)) ⌝ }
+{
+    told_tables_books::write(table, area, start, bytes)
 }
