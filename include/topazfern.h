@@ -27,12 +27,12 @@ enum {
     TOPAZFERN_ACCEPTED = 0,
     TOPAZFERN_NOT_LIVE = 1,      /* an assignment, a mask or a slot has a bit that is not live */
     TOPAZFERN_TWICE = 2,         /* a gate names the same wire twice; no call on a table has it */
-    TOPAZFERN_RANGE = 3,         /* a turn above 3, or odd on two slots, a phase above 7 or an r above 1 in a call on a table; second byte of a one-wire gate not 0; a block's count of 0, or a stray byte of its marks; an outcome
-                                    that is neither 0 nor 1; number of a one-wire element above 23 */
-    TOPAZFERN_WIDTH = 6,         /* width of a circuit not 1..31, or a wire not below it; two circuits to compare of unequal widths */
+    TOPAZFERN_RANGE = 3,         /* a turn above 3, or odd on two slots, a phase above 7 or an r above 1 in a call on a table; second byte of a
+                                    one-wire gate not 0; a block's count of 0, or a stray byte of its marks; an outcome that is neither 0 nor 1;
+                                    number of a one-wire element above 23 */
     TOPAZFERN_FULL = 4,          /* all 64 slots of a table are live */
     TOPAZFERN_POWER = 5,         /* the result is not zero and its power of root two is below -2,000 or above 2,000 */
-    TOPAZFERN_WIDTH = 6,         /* width of a circuit not 1..31, or a wire not below it */
+    TOPAZFERN_WIDTH = 6,         /* width of a circuit not 1..31, or a wire not below it; two circuits to compare of unequal widths */
     TOPAZFERN_CODE = 7,          /* unknown gate code */
     TOPAZFERN_STRING = 8,        /* a string has a bit at or above the width */
     TOPAZFERN_HEADER = 9,        /* a book's length, letters, edition or count; an edition other than 1 or 2; a list to lay of more than 16; a seventeenth body */
@@ -40,13 +40,10 @@ enum {
     TOPAZFERN_BODY = 11,         /* body length wrong, more than 4,096 gates and marks, or elements to close, or a field out of range; a tableau's
                                     count of rows, or a bit at or above twice the width */
     TOPAZFERN_NOT_NORMAL = 12,   /* a table that is not normal */
-    TOPAZFERN_ROOM = 13,         /* the area or list is too short for what is to be written, or the start or a stated length is beyond its end */
-    TOPAZFERN_NO_BODY = 14,      /* no body of that number */
-    TOPAZFERN_MANY_BITS = 15,    /* more than 20 live bits, where every path is added up */
-    TOPAZFERN_BLOCK = 16         /* a block unclosed, empty or unopened, more than 8 deep, or more than 65,536 gates written out */
-    TOPAZFERN_ROOM = 13,         /* the area is too short for what is to be written, or the start or a stated length is beyond its end;
+    TOPAZFERN_ROOM = 13,         /* the area or list is too short for what is to be written, or the start or a stated length is beyond its end;
                                     the bytes of a table are not TOPAZFERN_TABLE */
     TOPAZFERN_NO_BODY = 14,      /* no body of that number */
+    TOPAZFERN_MANY_BITS = 15,    /* more than 20 live bits, where every path is added up */
     TOPAZFERN_BLOCK = 16,        /* a block unclosed, empty or unopened, more than 8 deep, or more than 65,536 gates written out */
     TOPAZFERN_LABEL = 17         /* a label that a live bit has already */
 };
