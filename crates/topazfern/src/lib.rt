@@ -14,7 +14,8 @@ ghost use Rattle.told_causes.specs.Told.{four, BookTold, BodyTold};
 ghost use Rattle.told_tables.specs.Calls.{FreshTold, NewBitTold, TurnTold, ScaleTold, TieTold, SumTold, FixTold};
 ghost use Rattle.told_tables_asks.specs.Asks.{EntryAsked, spreading, SpreadAsked};
 ghost use Rattle.told_tables_books.specs.Books.{TableWriteTold};
-ghost use Rattle.topazfern.specs.Calls.{AmplitudeTold, RecordTold, EntryTold, WriteTold, ReadTold, StrictReadTold};
+ghost use Rattle.told_bodies.specs.Bodies.{AmplitudeTold, EntryTold, WriteTold};
+ghost use Rattle.topazfern.specs.Calls.{RecordTold, ReadTold, StrictReadTold};
 
 // The amplitude of a circuit of an edition.
 #[no_mangle]
@@ -30,8 +31,7 @@ pub extern "C" fn topazfern_amplitude(
 ) -> u8
     ensures { λ n. ⌜ AmplitudeTold edition width input output (now (gates .entry)) (behind (now (zero .entry)) (now (power .entry)) (now (phase .entry))) n (behind (now (zero .exit)) (now (power .exit)) (now (phase .exit))) ⌝ }
 {
-    let a = circuit::amplitude(edition, width, input, output, gates);
-    told::answer(a, zero, power, phase)
+    told_bodies::amplitude(edition, width, input, output, gates, zero, power, phase)
 }
 
 // The chance of a whole record, which is of edition 2.
@@ -113,14 +113,7 @@ pub extern "C" fn topazfern_entry(
 ) -> u8
     ensures { λ n. ⌜ EntryTold width (now (body .entry)) x (behind (now (zero .entry)) (now (power .entry)) (now (phase .entry))) n (behind (now (zero .exit)) (now (power .exit)) (now (phase .exit))) ⌝ }
 {
-    let r = body_read::read(body, width);
-    let refusal = r.refusal;
-    if refusal != 0 {
-        return refusal;
-    }
-    let t = r.table;
-    let a = call_asking::entry(t, x);
-    told::answer(a, zero, power, phase)
+    told_bodies::entry(body, width, x, zero, power, phase)
 }
 
 // Every path of a table body added up: four whole numbers and the table's own power.
@@ -176,17 +169,7 @@ pub extern "C" fn topazfern_write(
 ) -> u8
     ensures { λ n. ⌜ WriteTold width (now (body .entry)) (now (area .entry)) start n (now (bytes .exit)) (now (area .exit)) ⌝ }
 {
-    let r = body_read::read(body, width);
-    let refusal = r.refusal;
-    if refusal != 0 {
-        *bytes = 0;
-        return refusal;
-    }
-    let t = r.table;
-    let w = body_write::write(t, area, start);
-    let n = w.bytes;
-    *bytes = n;
-    w.refusal
+    told_bodies::write(body, width, area, start, bytes)
 }
 
 // The product of two one-wire elements: i, then j.

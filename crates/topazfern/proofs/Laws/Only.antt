@@ -19,7 +19,8 @@ use Rattle.exact.specs.declared.Told.{Told as ChanceAnswer}
 use Rattle.record.proofs.Laws.Only.{one-chance}
 use Rattle.told.specs.Told.{Told, AnswerTold, Odds, ChanceTold, Shown, BodyTold}
 use Rattle.told.proofs.Laws.Only.{one-telling, one-chance-told, one-body-told}
-use Rattle.topazfern.specs.Calls.{AmplitudeTold, RecordTold, EntryTold, WriteTold, ReadTold, StrictReadTold}
+use Rattle.told_bodies.specs.Bodies.{AmplitudeTold, EntryTold, WriteTold}
+use Rattle.topazfern.specs.Calls.{RecordTold, ReadTold, StrictReadTold}
 
 pub one-amplitude-told : (ed width input output : ℕ) (bs : List ℕ) (t u v : Told) (n m : ℕ) → AmplitudeTold ed width input output bs t n u → AmplitudeTold ed width input output bs t m v → (n ≡ m) × (u ≡ v)
 one-amplitude-told ed width input output bs t u v n m A B =

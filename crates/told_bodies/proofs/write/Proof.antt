@@ -1,8 +1,8 @@
--- `topazfern_write` meets its contract: refused as the body is, or what the writer answers.
+-- `write` meets its contract: refused as the body is, or what the writer answers.
 use mathlib.Core.Path.{refl}
 use borrow.Author.Needs.{needs}
-use Rattle.topazfern.proofs.topazfern_write.Statement.{statement}
-use Rattle.topazfern.proofs.topazfern_write.Tie as tie
+use Rattle.told_bodies.proofs.write.Statement.{statement}
+use Rattle.told_bodies.proofs.write.Tie as tie
 
 read-requires : tie.Need-read-requires
 read-requires c κs = search needs
@@ -29,6 +29,6 @@ returns-2 c = record {
   written = λ z. c .before .before .write .ensures;
 }
 
-pub topazfern-write-spec : {M : Type 1} → statement M
-topazfern-write-spec =
+pub write-spec : {M : Type 1} → statement M
+write-spec =
     tie.close (tie.spec read-requires returns write-requires same-length returns-2)

@@ -1,8 +1,8 @@
--- `topazfern_entry` meets its contract: refused as the body is, or the entry's answer told.
+-- `entry` meets its contract: refused as the body is, or the entry's answer told.
 use mathlib.Core.Path.{refl}
 use borrow.Author.Needs.{needs}
-use Rattle.topazfern.proofs.topazfern_entry.Statement.{statement}
-use Rattle.topazfern.proofs.topazfern_entry.Tie as tie
+use Rattle.told_bodies.proofs.entry.Statement.{statement}
+use Rattle.told_bodies.proofs.entry.Tie as tie
 
 read-requires : tie.Need-read-requires
 read-requires c κs = search needs
@@ -29,6 +29,6 @@ returns-2 c = record {
   given = λ z. record { answer = c .before .before .before .before .entry .result; is = c .before .before .before .before .entry .ensures; tells = c .answer .ensures };
 }
 
-pub topazfern-entry-spec : {M : Type 1} → statement M
-topazfern-entry-spec =
+pub entry-spec : {M : Type 1} → statement M
+entry-spec =
     tie.close (tie.spec read-requires returns entry-requires answer-requires returns-2)
