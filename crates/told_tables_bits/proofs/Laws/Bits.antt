@@ -1,10 +1,11 @@
 -- A table made fresh on each side of the test of its bytes, and answers told beside a number: refused by the call, or put back.
 use mathlib.Core.List.{List}
-use mathlib.Core.Logic.{_≢_}
+use mathlib.Core.Logic.{_≢_, ⊎-elim}
 use mathlib.Core.Path.{_≡_, refl, sym, ap, ap₂, _∙_}
 use Prim.Native.Nat.{ℕ}
 use lib.ListN.{length}
 use Rattle.exact.specs.Refusal.{accepted, areaShort}
+use Rattle.bits.proofs.Laws.Bit.{same-or}
 use Rattle.table.specs.declared.Table.{Table}
 use Rattle.table.specs.Normal.{fresh}
 use Rattle.image.specs.Image.{imageSize}
@@ -36,3 +37,11 @@ module _ {A : Type 0} (P : A → Type 0) (number : A → ℕ) (table : A → Tab
     kept = λ h. absurd (h (B .number));
     told = λ q. ap₂ beside (B .written q) e;
   }
+
+-- no second result: one number and the same bytes
+pub one-fresh : (xs : List ℕ) (n m : ℕ) (ys zs : List ℕ) → FreshTold xs n ys → FreshTold xs m zs → (n ≡ m) × (ys ≡ zs)
+one-fresh xs n m ys zs a b =
+    ⊎-elim
+    (λ (h : length xs ≡ imageSize). (a .number h ∙ sym (b .number h), a .done h ∙ sym (b .done h)))
+    (λ (h : length xs ≢ imageSize). (a .short h ∙ sym (b .short h), a .kept h ∙ sym (b .kept h)))
+    (same-or (length xs) imageSize)
