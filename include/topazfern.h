@@ -248,6 +248,10 @@ uint8_t topazfern_table_spread(const uint8_t *table, size_t table_length, uint8_
  * rising order become slots 0, 1, .. *bytes is how many bytes were written, 0 where refused. Refuses 13 (the area too short). */
 uint8_t topazfern_table_write(const uint8_t *table, size_t table_length, uint8_t *area, size_t area_length, size_t start, size_t *bytes);
 
+/* The operator table of a circuit: input wire i is live in slot and label i, output wire i in width plus i, and the entries are those of
+ * the product of the gates' matrices. Refuses as topazfern_same does one circuit, then 13 where the bytes are not TOPAZFERN_TABLE. */
+uint8_t topazfern_operator(uint8_t edition, uint8_t width, const uint8_t *gates, size_t gates_length, uint8_t *table, size_t table_length);
+
 #ifdef __cplusplus
 }
 #endif

@@ -14,6 +14,7 @@ ghost use Rattle.told_causes.specs.Told.{four, BookTold, BodyTold};
 ghost use Rattle.told_tables.specs.Calls.{FreshTold, NewBitTold, TurnTold, ScaleTold, TieTold, SumTold, FixTold};
 ghost use Rattle.told_tables_asks.specs.Asks.{EntryAsked, spreading, SpreadAsked};
 ghost use Rattle.told_tables_books.specs.Books.{TableWriteTold};
+ghost use Rattle.told_tables_operator.specs.Operator.{OperatorTold};
 ghost use Rattle.told_bodies.specs.Bodies.{AmplitudeTold, EntryTold, WriteTold};
 ghost use Rattle.topazfern.specs.Calls.{RecordTold, ReadTold, StrictReadTold};
 
@@ -256,6 +257,14 @@ pub extern "C" fn topazfern_common_phase(
     ensures { λ n. ⌜ PhaseTold edition width (now (gates .entry)) edition2 width2 (now (gates2 .entry)) (now (same .entry)) (now (phase .entry)) n (now (same .exit)) (now (phase .exit)) ⌝ }
 {
     told_operator::common_phase(edition, width, gates, edition2, width2, gates2, same, phase)
+}
+
+// The operator table of a circuit of an edition, in the bytes of a table.
+#[no_mangle]
+pub extern "C" fn topazfern_operator(edition: u8, width: u8, gates: &[u8], table: &mut [u8]) -> u8
+    ensures { λ n. ⌜ OperatorTold edition width (now (gates .entry)) (now (table .entry)) n (now (table .exit)) ⌝ }
+{
+    told_tables_operator::operator(edition, width, gates, table)
 }
 
 // Body j of the book in the first `length` bytes of an area goes; behind the pointer stands the new length, 0 where refused.
