@@ -54,8 +54,32 @@ static int judged(const struct pair *p)
     return p->expected == DIFFER ? aligned == 0 && phase == 0 : aligned == 1 && phase == p->expected;
 }
 
+/* The table of H by hand: slots 0 and 1 live, a sign between them, power -1, labels 0 and 1. */
+static int table_of_h(void)
+{
+    static const uint8_t h[] = {1, 0, 0};
+    uint8_t table[TOPAZFERN_TABLE], expected[TOPAZFERN_TABLE] = {0}, kept[TOPAZFERN_TABLE];
+
+    expected[2] = expected[3] = 0xFF;
+    expected[4] = 3;
+    expected[76] = 2;
+    expected[84] = 1;
+    expected[1167] = 1;
+    memset(table, UNTOUCHED, sizeof table);
+    memset(kept, UNTOUCHED, sizeof kept);
+    if (topazfern_operator(1, 1, h, 3, table, sizeof table - 1) != 13 || topazfern_operator(1, 1, h, 2, table, 7) != 11)
+        return 0;
+    if (topazfern_operator(3, 1, h, 3, table, sizeof table) != 9 || memcmp(table, kept, sizeof table) != 0)
+        return 0;
+    return topazfern_operator(1, 1, h, 3, table, sizeof table) == 0 && memcmp(table, expected, sizeof table) == 0;
+}
+
 int main(void)
 {
+    if (!table_of_h()) {
+        printf("operators: the table of H\n");
+        return 1;
+    }
     for (size_t k = 0; k < sizeof pairs / sizeof *pairs; k++)
         if (!judged(&pairs[k])) {
             printf("operators: %s\n", pairs[k].name);
