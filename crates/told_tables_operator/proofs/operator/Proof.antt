@@ -18,8 +18,9 @@ returns-2 c =
 
 put-back-requires : tie.Need-put-back-requires
 put-back-requires c κs =
-    let r = c .before .before .before .table-of in
-    (c .before .if2 .left, λ z. r .ensures .made (sym (r .ensures .number) ∙ c .before .before .if1 .left) .normal)
+    let d = c .before .before in
+    let r = d .before .before .table-of in
+    (d .if2 .left, λ z. r .ensures .made (sym (r .ensures .number) ∙ d .before .if1 .left) .normal)
 
 same-length : tie.Need-same-length
 same-length c = search needs
@@ -27,7 +28,7 @@ same-length c = search needs
 returns-3 : tie.Need-returns-3
 returns-3 c =
     let b = c .before .before in
-    let d = b .before in
+    let d = b .before .before .before in
     let r = d .before .before .table-of in
     table-told _ _ _ _ _ (r .ensures) (d .before .if1 .left) (d .if2 .left) _ _ (b .put-back .ensures)
 
