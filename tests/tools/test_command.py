@@ -164,12 +164,20 @@ class Make(Command):
 class ListAndWhy(Command):
     def test_order_and_names(self):
         paths = sorted(EXAMPLES.glob("*.book"))
-        expected = []
+        expected, bodies, whole = [], 0, 0
         for path in paths:
             lines = path.with_suffix(".listing").read_text().splitlines()
-            expected += [f"{path}: {line}" for line in (lines[1:] if lines[0].startswith("book") else lines)]
+            if lines[0].startswith("book"):
+                lines = lines[1:]
+                bodies += len(lines)
+            else:
+                whole += 1
+            expected += [f"{path}: {line}" for line in lines]
+        refused = sum(" refused " in line for line in expected) - whole
+        self.assertEqual(whole, 1)
+        count = f"{len(paths)} books: {bodies} bodies listed, {refused} of them refused; 1 book refused whole, 0 not read"
         for jobs in (1, 3, 40):
-            out = self.ends(topaz("list", "--jobs", jobs, *paths), 1, "15 books: 51 bodies listed, 6 of them refused; 1 book refused whole, 0 not read")
+            out = self.ends(topaz("list", "--jobs", jobs, *paths), 1, count)
             self.assertEqual([line.split(" (")[0] for line in out.splitlines()[:-1]], expected)
 
     def test_bad_files(self):
