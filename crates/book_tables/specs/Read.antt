@@ -1,7 +1,7 @@
 -- Reading a table with labels: "Whoever reads a table from a book gives a first label, and slot i gets that number plus i"
 use mathlib.Core.Bool.{true, false}
 use mathlib.Core.Path.{_≡_}
-use Prim.Native.Nat.{ℕ}
+use Prim.Native.Nat.{ℕ, _≤_}
 use lib.Count.{ones}
 use Rattle.exact.specs.Refusal.{outOfRange}
 use Rattle.labels.specs.Labels.{rising, pastLast}
@@ -20,6 +20,8 @@ named first s = record { state = s; labels = rising first (ones (s .live)) }
 
 -- "3 for labels read past 65,535, after all the book's and body's own": b is what its own numbers left; a table that was refused, and none, has no slots
 pub record NamesBody (first : ℕ) (b : StateBody) (r : Body) : Type 0 where
+  -- "A table has slots 0 to 63"
+  pub few : ones (b .table .live) ≤ 64
   pub past : pastLast first (ones (b .table .live)) ≡ true → r ≡ record { said = Refused outOfRange; table = fresh }
   pub given : pastLast first (ones (b .table .live)) ≡ false → r ≡ record { said = b .said; table = named first (b .table) }
 

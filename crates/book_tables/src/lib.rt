@@ -78,14 +78,14 @@ pub fn read_bytes(bs: &[u8], width: u8, first: Label) -> Reading
 pub fn read(book: &[u8], j: usize, first: Label) -> Body
     ensures { λ r. ⌜ BodyAs (ReadsBody (now (book .entry)) j) (first .0) r ⌝ }
 {
-    name_body(book::read(book, j), first)
+    name_body(book_states::read(book, j), first)
 }
 
 // Body j of a book of which every body is good: refused as the strict reading is, then by 3.
 pub fn read_strict(book: &[u8], j: usize, first: Label) -> Body
     ensures { λ r. ⌜ BodyAs (ReadsStrict (now (book .entry)) j) (first .0) r ⌝ }
 {
-    name_body(book::read_strict(book, j), first)
+    name_body(book_states::read_strict(book, j), first)
 }
 
 // The body of a table, without its labels, in a lent area from a start on; where refused, nothing is written.

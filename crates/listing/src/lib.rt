@@ -13,7 +13,7 @@ fn list_bodies(book: &[u8], area: &mut [u8]) -> usize
     let mut at = lines::book_line(area, 0, n as u8);
     let mut j = 0usize;
     while j < n {
-        let b = book::read(book, j);
+        let b = book_shown::read(book, j);
         at = listing_line::body_line(area, at, j as u8, b);
         j += 1;
     }

@@ -33,7 +33,7 @@ fn list_tables(book: &[u8], area: &mut [u8]) -> usize
     let mut at = lines::book_line(area, 0, n as u8);
     let mut j = 0usize;
     while j < n {
-        let b = book::read(book, j);
+        let b = book_shown::read(book, j);
         at = body_line(area, at, j as u8, b);
         j += 1;
     }

@@ -80,7 +80,7 @@ pub extern "C" fn topazfern_read(
 ) -> u8
     ensures { λ n. ⌜ ReadTold (now (book .entry)) j (six (now (kind .entry)) (now (live .entry)) (now (ties .entry)) (now (zero .entry)) (now (power .entry)) (now (phase .entry))) n (six (now (kind .exit)) (now (live .exit)) (now (ties .exit)) (now (zero .exit)) (now (power .exit)) (now (phase .exit))) ⌝ }
 {
-    let b = book::read(book, j);
+    let b = book_shown::read(book, j);
     told::tell_body(b, kind, live, ties, zero, power, phase)
 }
 
@@ -98,7 +98,7 @@ pub extern "C" fn topazfern_read_strict(
 ) -> u8
     ensures { λ n. ⌜ StrictReadTold (now (book .entry)) j (six (now (kind .entry)) (now (live .entry)) (now (ties .entry)) (now (zero .entry)) (now (power .entry)) (now (phase .entry))) n (six (now (kind .exit)) (now (live .exit)) (now (ties .exit)) (now (zero .exit)) (now (power .exit)) (now (phase .exit))) ⌝ }
 {
-    let b = book::read_strict(book, j);
+    let b = book_shown::read_strict(book, j);
     told::tell_body(b, kind, live, ties, zero, power, phase)
 }
 

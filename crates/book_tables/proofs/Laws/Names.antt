@@ -42,14 +42,17 @@ either : {A : Type 0} {b : Bool} → b ≡ true → b ≡ false → A
 either e f = absurd (clash (sym e ∙ f))
 
 module _ (first n : ℕ) (b : StateBody) (w : Count (b .table .live) n) {p : Bool} (e : p ≡ pastLast first n) where
+  few : ones (b .table .live) ≤ 64
+  few = omega (arith, w .is, w .bound)
+
   pub body-past : (t : Table) → p ≡ true → t ≡ fresh → NamesBody first b (record { said = Refused 3; table = t })
-  body-past t q f = record { past = λ h. ap body f; given = λ h. either (told first n (b .table) w e q) h }
+  body-past t q f = record { few = few; past = λ h. ap body f; given = λ h. either (told first n (b .table) w e q) h }
     where
       body : Table → Body
       body s = record { said = Refused 3; table = s }
 
   pub body-given : (ls : Labels) → p ≡ false → ls ≡ rising first n → NamesBody first b (record { said = b .said; table = record { state = b .table; labels = ls } })
-  body-given ls q f = record { past = λ h. either h (told first n (b .table) w e q); given = λ h. ap body (labels-of first n (b .table) w ls f) }
+  body-given ls q f = record { few = few; past = λ h. either h (told first n (b .table) w e q); given = λ h. ap body (labels-of first n (b .table) w ls f) }
     where
       body : Table → Body
       body s = record { said = b .said; table = s }

@@ -1,9 +1,9 @@
 -- `body_in` meets its contract: good contents keep the part within the book, and the entry says its kind.
 use borrow.Author.Needs.{needs}
 use native.Mathlib.Omega.{arith}
 use Rattle.book.proofs.Laws.Number.{entry-within, answer-circuit, answer-record, answer-table, answer-at}
-use Rattle.book.proofs.body_in.Statement.{statement}
-use Rattle.book.proofs.body_in.Tie as tie
+use Rattle.book_states.proofs.body_in.Statement.{statement}
+use Rattle.book_states.proofs.body_in.Tie as tie
 
 edition-requires : tie.Need-edition-requires
 edition-requires c κs = search needs

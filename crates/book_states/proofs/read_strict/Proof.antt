@@ -1,8 +1,8 @@
 -- `read_strict` meets its contract: the book's number, then what the body answers on its own.
 use borrow.Author.Needs.{needs}
 use Rattle.book.proofs.Laws.Read.{strict-refused, strict-read}
-use Rattle.book.proofs.read_strict.Statement.{statement}
-use Rattle.book.proofs.read_strict.Tie as tie
+use Rattle.book_states.proofs.read_strict.Statement.{statement}
+use Rattle.book_states.proofs.read_strict.Tie as tie
 
 test-requires : tie.Need-test-requires
 test-requires c κs = search needs

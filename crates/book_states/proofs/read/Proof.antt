@@ -2,9 +2,9 @@
 use borrow.Author.Needs.{needs}
 use native.Mathlib.Omega.{arith}
 use mathlib.Core.Path.{sym, _∙_}
 use Rattle.book.proofs.Laws.Read.{reads-refused, reads-beyond, reads-answer}
-use Rattle.book.proofs.read.Statement.{statement}
-use Rattle.book.proofs.read.Tie as tie
+use Rattle.book_states.proofs.read.Statement.{statement}
+use Rattle.book_states.proofs.read.Tie as tie
 
 test-requires : tie.Need-test-requires
 test-requires c κs = search needs
