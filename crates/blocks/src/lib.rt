@@ -1,10 +1,12 @@
 // Repeated blocks: how far a block reaches, how many gates a body stands for, and the number that refuses its blocks. Only codes and counts are looked at.
+#![tactic(auto)]
+
 ghost use Rattle.std.specs.Prelude.{cond, ◌≡◌, ◌<◌, ◌≤◌, min, length};
 ghost use Rattle.blocks.specs.Expansion.{item_count, expansion, blocks_fault, blocks_number};
 ghost use Rattle.blocks.specs.Inner.Spans.{Good, Block, Item, Whole};
 
 // What reading a block or an item says: a fault, or the item behind it and the gates that it stands for, counted up to one more than a body may have.
-#[derive(Drop)]
+#[derive(Clone, Copy)]
 enum Span {
     Fault,
     Till(usize, u32),

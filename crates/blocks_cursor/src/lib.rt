@@ -1,9 +1,11 @@
 // Inner: a cursor that goes through a body's expansion, gate by gate, without writing it out; what it notes of open blocks is lent. Asks of its callers bytes whose blocks are not at fault and whose counts are not 0, and that the cursor stands at an item (`At`).
+#![tactic(auto)]
+
 ghost use Rattle.std.specs.Prelude.{◌≡◌, ◌+◌, ◌<◌, ◌≤◌, length};
 ghost use Rattle.blocks_cursor.specs.Inner.Cursor.{stand, inside, outside, past, Sort, Marked, Passes};
 
 // Where a run through the expansion stands: at item `at`, with `depth` blocks open. Of each open block `starts` has the number of its first item and `lefts` how often it is run again.
-#[derive(Drop)]
+#[derive(Clone, Copy)]
 pub struct Cursor {
     pub at: usize,
     pub depth: usize,

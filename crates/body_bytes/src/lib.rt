@@ -1,4 +1,6 @@
 // A table's body in a book: its fields as the bytes state them. Every function takes any bytes: a byte beyond the end counts as 0.
+#![tactic(auto)]
+
 ghost use Rattle.std.specs.Prelude.{◌≡◌};
 ghost use Rattle.body_bytes.specs.Body.{signed16, power_of, turn_of, row_of, tie_count, mask_of, side_of};
 

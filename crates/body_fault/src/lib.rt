@@ -1,4 +1,6 @@
 // Whether a table's body in a book is refused by 11: its length, its ranges, its rows and its ties.
+#![tactic(auto)]
+
 ghost use Rattle.std.specs.Prelude.{◌≡◌, ◌^◌, leb};
 ghost use Rattle.state.specs.Number.{outside};
 ghost use Rattle.contents.specs.Contents.{any_below};

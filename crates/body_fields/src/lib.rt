@@ -1,4 +1,6 @@
 // Inner: the fields of a table's body, written one behind the other into a lent part. Asks of its callers a part that is long enough, and fields in range.
+#![tactic(auto)]
+
 ghost use Rattle.std.specs.Prelude.{◌≡◌, [], ◌∷◌, ◌*◌, ◌≤◌, length};
 ghost use Rattle.fields.specs.Bytes.{le, front};
 ghost use Rattle.form.specs.Form.{turn_at, row_at};

@@ -1,4 +1,6 @@
 // A table with its live bits packed in rising order: its live slots are the lowest.
+#![tactic(auto)]
+
 ghost use Rattle.std.specs.Prelude.{◌≡◌};
 ghost use Rattle.body_pack.specs.Slot.{slot_at, packed_mask};
 ghost use Rattle.body_pack.specs.Packed.{packed_form, packed_ties, packed_table};

@@ -1,4 +1,6 @@
 // A table's body in a book, read into a table.
+#![tactic(auto)]
+
 ghost use Rattle.std.specs.Prelude.{false, ◌≡◌, ◌≤◌, ◌-◌, ◌^◌};
 ghost use Rattle.form.specs.Form.{quarter};
 ghost use Rattle.body_bytes.specs.Body.{row_of, tie_count, mask_of, side_of, body_fault};
@@ -11,7 +13,7 @@ use state::State;
 use ties::Ties;
 
 // What reading a body answers: a refusal's number or 0, and the table; where refused, the fresh one.
-#[derive(Drop)]
+#[derive(Clone, Copy)]
 pub struct Reading {
     pub refusal: u8,
     pub table: State,

@@ -1,4 +1,6 @@
 // A table's body written into a lent area.
+#![tactic(auto)]
+
 ghost use Rattle.std.specs.Prelude.{◌≡◌, ◌≤◌, length};
 ghost use Rattle.fields.specs.Bytes.{front};
 ghost use Rattle.state.specs.Normal.{Normal};
@@ -8,7 +10,7 @@ ghost use Rattle.body_write.specs.Write.{BodyWritten};
 use state::State;
 
 // What a writer answers: a refusal's number or 0, and the bytes written.
-#[derive(Drop)]
+#[derive(Clone, Copy)]
 pub struct Written {
     pub refusal: u8,
     pub bytes: usize,

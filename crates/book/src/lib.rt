@@ -1,4 +1,6 @@
 // A whole book tested: header, contents, then its bodies in order.
+#![tactic(auto)]
+
 ghost use Rattle.std.specs.Prelude.{◌≡◌, ◌<◌};
 ghost use Rattle.contents.specs.Contents.{count_of, contents_number};
 ghost use Rattle.book.specs.Book.{BodyNumber, BookNumber};

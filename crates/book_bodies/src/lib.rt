@@ -1,4 +1,6 @@
 // A body of a book on its own: what it answers, and the number that refuses it. Inner: `refused` and the faults serve the book.
+#![tactic(auto)]
+
 ghost use Rattle.std.specs.Prelude.{◌≡◌};
 ghost use Rattle.book_bodies.specs.Number.{circuit_body_number, record_body_number, TableNumber, OwnNumber};
 ghost use Rattle.book_bodies.specs.Inner.Said.{said_of, said_told};
@@ -8,7 +10,7 @@ use exact::{Amount, Answer, Chance, Told};
 use state::State;
 
 // What reading a body says: a refusal's number, a circuit's amplitude, a record's chance, or that the table stands beside it.
-#[derive(Drop)]
+#[derive(Clone, Copy)]
 pub enum Said {
     Refused(u8),
     Circuit(Amount),
@@ -17,7 +19,7 @@ pub enum Said {
 }
 
 // What reading a body answers; the table is the fresh one unless it was read.
-#[derive(Drop)]
+#[derive(Clone, Copy)]
 pub struct Body {
     pub said: Said,
     pub table: State,

@@ -1,4 +1,6 @@
 // Inner: bodies of a book for whoever shows them and hands no table on: read from label 0 on, and without their labels.
+#![tactic(auto)]
+
 ghost use Rattle.std.specs.Prelude.{◌≡◌};
 ghost use Rattle.book.specs.Read.{ReadsBody, ReadsStrict};
 ghost use Rattle.book_shown.specs.Inner.Plain.{plain};

@@ -1,4 +1,6 @@
 // Inner: bodies of a book read, a table as a state without labels; who hands a table on gives it labels (`book_tables`).
+#![tactic(auto)]
+
 ghost use Rattle.std.specs.Prelude.{◌≡◌, ◌<◌};
 ghost use Rattle.contents.specs.Contents.{edition_of, count_of, kind_of, width_of, contents_number};
 ghost use Rattle.book.specs.Book.{bytes_of};

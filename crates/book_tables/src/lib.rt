@@ -1,4 +1,6 @@
 // Tables of a book as a caller holds them: read with labels from a first one on, and written without.
+#![tactic(auto)]
+
 ghost use Rattle.std.specs.Prelude.{◌≡◌};
 ghost use Rattle.body_read.specs.Read.{Reads};
 ghost use Rattle.book.specs.Read.{ReadsBody, ReadsStrict};
@@ -13,14 +15,14 @@ use state::State;
 use table::Table;
 
 // What reading a table's body answers: a refusal's number or 0, and the table; where refused, the fresh one.
-#[derive(Drop)]
+#[derive(Clone, Copy)]
 pub struct Reading {
     pub refusal: u8,
     pub table: Table,
 }
 
 // What reading a body of a book answers; the table is the fresh one unless it was read.
-#[derive(Drop)]
+#[derive(Clone, Copy)]
 pub struct Body {
     pub said: Said,
     pub table: Table,

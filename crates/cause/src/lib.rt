@@ -1,9 +1,11 @@
 // Why a book is refused: the causes of each number of refusal, and a fault that was found, with its place.
+#![tactic(auto)]
+
 ghost use Rattle.std.specs.Prelude.{◌≡◌};
 ghost use Rattle.cause.specs.Cause.{number_of, found_number, found, sound as sound_of};
 
 // The causes, in the order in which they are looked for in a book, a circuit or record, and a table; `Sound` is none.
-#[derive(Drop)]
+#[derive(Clone, Copy)]
 pub enum Cause {
     Sound,
     Short,
@@ -50,7 +52,7 @@ pub enum Cause {
 }
 
 // A fault: its cause, the item at fault (the gate or mark, the slot or the tie, counted from 0; 0 where the cause is of none), and its byte, counted from the start of the book.
-#[derive(Drop)]
+#[derive(Clone, Copy)]
 pub struct Found {
     pub cause: Cause,
     pub item: usize,

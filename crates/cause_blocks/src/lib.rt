@@ -1,4 +1,6 @@
 // The first fault of the blocks of a body, mark by mark. Inner: asks that the body has at most 20,000 items and lies within a book.
+#![tactic(auto)]
+
 ghost use Rattle.std.specs.Prelude.{◌≡◌, ◌≤◌};
 ghost use Rattle.blocks.specs.Expansion.{item_count};
 ghost use Rattle.cause_blocks.specs.Blocks.{mark_found, behind, blocks_found};
@@ -7,7 +9,7 @@ ghost use Rattle.cause_blocks.specs.Inner.Steps.{Steps};
 use cause::{Cause, Found};
 
 // What is known between two items: how many more blocks may open, which item opened the outermost open one, and whether the item before opened a block.
-#[derive(Drop)]
+#[derive(Clone, Copy)]
 pub struct Scan {
     pub more: u8,
     pub outer: usize,

@@ -1,4 +1,6 @@
 // Why a book is refused: its first fault in the documents' order, or that of one of its bodies, with its place in the book.
+#![tactic(auto)]
+
 ghost use Rattle.std.specs.Prelude.{◌≡◌, ◌<◌};
 ghost use Rattle.contents.specs.Contents.{count_of, contents_number};
 ghost use Rattle.cause_book.specs.Why.{why_of, BodyFound, BookWhy, BodyWhy};
@@ -6,7 +8,7 @@ ghost use Rattle.cause_book.specs.Why.{why_of, BodyFound, BookWhy, BodyWhy};
 use cause::{Cause, Found};
 
 // Why a book, or a body of it, is refused: the number, 0 for none; the body, 16 where the fault is of none; the item at fault, its byte in the book, and the cause.
-#[derive(Drop)]
+#[derive(Clone, Copy)]
 pub struct Reason {
     pub number: u8,
     pub body: usize,

@@ -1,4 +1,6 @@
 // The first fault of a circuit's or a record's body. Inner: asks that the body lies within a book.
+#![tactic(auto)]
+
 ghost use Rattle.std.specs.Prelude.{◌≡◌, ◌+◌, ◌≤◌, length};
 ghost use Rattle.cause_circuit.specs.Circuit.{head_found, tested_found, circuit_found, record_found};
 

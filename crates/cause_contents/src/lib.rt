@@ -1,4 +1,6 @@
 // The first fault of a book's header and contents, in the documents' order. Inner: `first` serves the book.
+#![tactic(auto)]
+
 ghost use Rattle.std.specs.Prelude.{◌≡◌, ◌≤◌};
 ghost use Rattle.cause_contents.specs.Contents.{header_found, entry_found, contents_found};
 

@@ -1,4 +1,6 @@
 // The first of the items of a body that is at fault, and why. Inner: asks that the items lie within a book.
+#![tactic(auto)]
+
 ghost use Rattle.std.specs.Prelude.{◌≡◌, ◌+◌, ◌*◌, ◌≤◌, length};
 ghost use Rattle.blocks.specs.Expansion.{item_count};
 ghost use Rattle.gates.specs.Circuit.{number_of};

@@ -1,4 +1,6 @@
 // The first fault of a table's body. Inner: asks that the body lies within a book.
+#![tactic(auto)]
+
 ghost use Rattle.std.specs.Prelude.{◌≡◌, ◌+◌, ◌≤◌, ◌^◌, leb, length};
 ghost use Rattle.state.specs.Number.{outside};
 ghost use Rattle.body_bytes.specs.Body.{tie_count};

@@ -1,4 +1,6 @@
 // The number that refuses a circuit, found without running it: 9 for its edition, then 11, 6, 8, then item by item, then its blocks.
+#![tactic(auto)]
+
 ghost use Rattle.std.specs.Prelude.{true, ◌≡◌, ℕ, ◌+◌, ◌*◌, ◌≤◌, length};
 ghost use Rattle.blocks.specs.Expansion.{item_count};
 ghost use Rattle.gates.specs.Read.{gate_read};

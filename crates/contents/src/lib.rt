@@ -1,9 +1,11 @@
 // A book's header and contents: tested, and read entry by entry.
+#![tactic(auto)]
+
 ghost use Rattle.std.specs.Prelude.{◌≡◌};
 ghost use Rattle.contents.specs.Contents.{edition_of, count_of, entry_of, header_fault, good_kind, fault_at, contents_number};
 
 // What the contents state of a body.
-#[derive(Drop)]
+#[derive(Clone, Copy)]
 pub struct Entry {
     pub kind: u8,
     pub width: u8,

@@ -1,4 +1,6 @@
 // A book's header and contents laid at the front of a lent area, from three lists.
+#![tactic(auto)]
+
 ghost use Rattle.std.specs.Prelude.{◌≡◌, ◌≤◌, length};
 ghost use Rattle.fields.specs.Bytes.{front};
 ghost use Rattle.contents.specs.Contents.{any_below};
@@ -6,7 +8,7 @@ ghost use Rattle.contents_lay.specs.Lay.{header_bytes, entry_bytes, entries_byte
 ghost use Rattle.contents_lay.specs.Inner.Entries.{Entries};
 
 // What a writer answers: a refusal's number or 0, and the bytes written.
-#[derive(Drop)]
+#[derive(Clone, Copy)]
 pub struct Written {
     pub refusal: u8,
     pub bytes: usize,

@@ -1,4 +1,6 @@
 // An amount as two doubles: document 01's "Doubles".
+#![tactic(auto)]
+
 ghost use Rattle.std.specs.Prelude.{◌≡◌};
 ghost use Rattle.doubles.specs.Inner.Steps.{repeated, start_at, stepped, raised};
 ghost use Rattle.doubles.specs.Answer.{answer, parts_of, answer_of};
@@ -8,7 +10,7 @@ ghost use Rattle.doubles.specs.Entry.{DoublesAt};
 use state::State;
 
 // An entry's value: a refusal's number, plain zero, or two doubles, the real part first.
-#[derive(Drop)]
+#[derive(Clone, Copy)]
 pub enum Doubles {
     Refused(u8),
     Zero,

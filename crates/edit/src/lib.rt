@@ -1,4 +1,6 @@
 // Editing a book where it stands, at the front of a lent area: a body removed, replaced, or added at the end. Where an edit is refused, no byte is changed.
+#![tactic(auto)]
+
 ghost use Rattle.std.specs.Prelude.{◌≡◌};
 ghost use Rattle.edit_numbers.specs.Volume.{remove, replace, add};
 ghost use Rattle.edit.specs.Edit.{refusal, Edits};
@@ -7,7 +9,7 @@ ghost use Rattle.edit.specs.Inner.Settled.{Settleable, Settled};
 use edit_plans::Plan;
 
 // What an edit answers: a refusal's number or 0, and the new length of the book, 0 where refused.
-#[derive(Drop)]
+#[derive(Clone, Copy)]
 pub struct Edited {
     pub refusal: u8,
     pub length: usize,

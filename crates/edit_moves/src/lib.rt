@@ -1,4 +1,6 @@
 // Bytes moved, put and cleared inside one lent area, whatever overlaps. Inner: what is moved, put or cleared lies within the area (`requires`).
+#![tactic(auto)]
+
 ghost use Rattle.std.specs.Prelude.{◌+◌, ◌≤◌, length};
 ghost use Rattle.edit_moves.specs.Inner.Held.{Holds, nought, of, from};
 ghost use Rattle.edit_moves.specs.Inner.Spliced.{Spliceable, Spliced};

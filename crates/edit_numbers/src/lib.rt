@@ -1,4 +1,6 @@
 // The number that refuses an edit of a book: found before a byte is changed. Inner: a book that a body is removed from lies within the area (`requires`).
+#![tactic(auto)]
+
 ghost use Rattle.std.specs.Prelude.{◌≡◌, ◌+◌, ◌≤◌, length};
 ghost use Rattle.edit_numbers.specs.Volume.{remove, replace, add};
 ghost use Rattle.edit_numbers.specs.Number.{BookEdit};

@@ -1,4 +1,6 @@
 // What an edit of a book is to move, and the lists of the book after it, read before a byte is changed. Inner: the book's contents are good, and the body is one of its own or there is room for one more (`requires`).
+#![tactic(auto)]
+
 ghost use Rattle.std.specs.Prelude.{[], ◌≡◌, ◌<◌};
 ghost use Rattle.contents.specs.Contents.{count_of, contents_number};
 ghost use Rattle.edit_numbers.specs.Volume.{skip, remove, replace, add, volume_of, edited};
@@ -6,7 +8,7 @@ ghost use Rattle.edit_plans.specs.Inner.Lists.{Readable, Reads, Put};
 ghost use Rattle.edit_plans.specs.Inner.Plan.{NewFits, Planned};
 
 // Kinds, widths and lengths of so many bodies.
-#[derive(Drop)]
+#[derive(Clone, Copy)]
 pub struct Lists {
     pub count: usize,
     pub kinds: [u8; 16],
@@ -15,7 +17,7 @@ pub struct Lists {
 }
 
 // The book after an edit: its edition and lists, where the old bodies begin, and the places between which the new body comes.
-#[derive(Drop)]
+#[derive(Clone, Copy)]
 pub struct Plan {
     pub edition: u8,
     pub lists: Lists,

@@ -1,4 +1,6 @@
 // The editions of a book: which there are, asked by its header, by its writer and by every direct call on a circuit.
+#![tactic(auto)]
+
 ghost use Rattle.std.specs.Prelude.{◌≡◌};
 ghost use Rattle.editions.specs.Edition.{good_edition};
 

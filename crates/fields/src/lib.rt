@@ -1,4 +1,6 @@
 // Little-endian numbers, read from lent bytes and written at the front of a lent part. A byte beyond the end reads as 0; where a part is too short for a number, nothing is written.
+#![tactic(auto)]
+
 ghost use Rattle.std.specs.Prelude.{◌≡◌, [], ◌∷◌, ◌+◌, ◌≤◌, ◌<◌, length};
 ghost use Rattle.fields.specs.Bytes.{byte_at, le, front};
 ghost use Rattle.fields.specs.Inner.Bytes.{Stated, Put};

@@ -1,4 +1,6 @@
 // A table read from the bytes that a caller lends: any bytes are taken.
+#![tactic(auto)]
+
 ghost use Rattle.std.specs.Prelude.{◌≡◌, ◌+◌, ◌*◌, ◌≤◌};
 ghost use Rattle.fields.specs.Bytes.{number};
 ghost use Rattle.fields.specs.Listed.{listed};
@@ -14,7 +16,7 @@ use state::State;
 use ties::Ties;
 
 // What reading a table answers: a refusal's number or 0, its state and its labels; where refused, the fresh ones.
-#[derive(Drop)]
+#[derive(Clone, Copy)]
 pub struct Reading {
     pub refusal: u8,
     pub state: State,

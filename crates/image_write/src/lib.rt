@@ -1,4 +1,6 @@
 // Inner: the bytes of a table written into a lent part. Asks of its callers a normal table and a part of 1,293 bytes.
+#![tactic(auto)]
+
 ghost use Rattle.std.specs.Prelude.{◌≡◌, [], ◌∷◌, ◌≤◌, length};
 ghost use Rattle.fields.specs.Bytes.{le, front};
 ghost use Rattle.ties.specs.Ties.{mask_at, side_at};

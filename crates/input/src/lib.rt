@@ -1,8 +1,10 @@
 // Inner: standard input read to its end, for the programs that list a book.
+#![tactic(auto)]
+
 ghost use Rattle.std.specs.Prelude.{◌≤◌, ◌≡◌, length, take};
 
 // What was read: how many bytes, and whether the input ended or filled the area (a read that failed did neither).
-#[derive(Drop)]
+#[derive(Clone, Copy)]
 pub struct Input {
     pub bytes: usize,
     pub whole: bool,

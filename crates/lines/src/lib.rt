@@ -1,4 +1,6 @@
 // The text of a listing, line by line, written as bytes into a lent area.
+#![tactic(auto)]
+
 ghost use Rattle.lines_words.specs.Overlay.{TextLaid};
 ghost use Rattle.lines.specs.Lines.{named_line, book_line, amount_text, circuit_line, counts_text, table_line, chance_text, record_line, refused_line, refused_body_line};
 

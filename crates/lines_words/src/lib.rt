@@ -1,4 +1,6 @@
 // Words and numbers in decimal, written as bytes into a lent area.
+#![tactic(auto)]
+
 ghost use Rattle.std.specs.Prelude.{◌≡◌, [], ◌∷◌, nat_abs};
 ghost use Rattle.lines_words.specs.Overlay.{TextLaid};
 ghost use Rattle.lines_words.specs.Text.{digits, signed_text};

@@ -1,4 +1,6 @@
 // The listing of a book, written into a lent area.
+#![tactic(auto)]
+
 ghost use Rattle.std.specs.Prelude.{◌≡◌};
 ghost use Rattle.contents.specs.Contents.{contents_number};
 ghost use Rattle.listing.specs.Listing.{Listed, ListedStrict};

@@ -1,4 +1,6 @@
 // The line of a body in a listing.
+#![tactic(auto)]
+
 ghost use Rattle.std.specs.Prelude.{◌≡◌};
 ghost use Rattle.lines_words.specs.Overlay.{TextLaid};
 ghost use Rattle.listing_line.specs.Line.{table_amount, body_line};

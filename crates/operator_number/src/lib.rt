@@ -1,4 +1,6 @@
 // The number that refuses a circuit without strings, found without running it: 9 for its edition, then 11, 6, then item by item, then its blocks.
+#![tactic(auto)]
+
 ghost use Rattle.std.specs.Prelude.{◌≡◌};
 ghost use Rattle.operator_number.specs.Number.{operator_number};
 

@@ -1,4 +1,6 @@
 // The lines of the listing of paths, written as bytes into a lent area.
+#![tactic(auto)]
+
 ghost use Rattle.lines_words.specs.Overlay.{TextLaid};
 ghost use Rattle.path_lines.specs.Lines.{refused_text, four_text, paths_text, summed_text, path_line};
 

@@ -1,4 +1,6 @@
 // The listing of the paths of a book, written into a lent area: each table's paths added up, and its bits summed away.
+#![tactic(auto)]
+
 ghost use Rattle.std.specs.Prelude.{◌≡◌};
 ghost use Rattle.contents.specs.Contents.{contents_number};
 ghost use Rattle.path_listing.specs.Listing.{PathsListed};

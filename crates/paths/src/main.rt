@@ -1,4 +1,5 @@
 // Reads a book from standard input to its end and writes the listing of its paths to standard output.
+#![tactic(auto)]
 
 // A write that failed is told on standard error, as a read is.
 fn said(written: bool) {

@@ -1,4 +1,6 @@
 // Reads a book from standard input to its end and compares its circuits in pairs, 2j with 2j + 1: for each pair a line, whether they are the same operator, the same up to a common phase, or differ.
+#![tactic(auto)]
+
 ghost use Rattle.std.specs.Prelude.{◌≡◌, ◌+◌, ◌≤◌, length};
 
 use contents::Entry;

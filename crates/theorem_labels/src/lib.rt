@@ -1,1 +1,2 @@
 // Round trips of tables with labels: no code.
+#![tactic(auto)]

@@ -1,4 +1,6 @@
 // Inner: what C is told: an amount, a chance, an answer or a body of a book, put behind pointers. Asks of its callers that a record's power is at most 65,536.
+#![tactic(auto)]
+
 ghost use Rattle.std.specs.Prelude.{◌≡◌, ◌≤◌};
 ghost use Rattle.exact.specs.Chance.{chance_amount, power_of};
 ghost use Rattle.book_bodies.specs.Answer.{said_chance};

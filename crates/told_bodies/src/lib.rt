@@ -1,4 +1,6 @@
 // Inner: the calls for C on a circuit's amplitude and on a table body, each told behind pointers. They ask nothing of their callers.
+#![tactic(auto)]
+
 ghost use Rattle.told.specs.Told.{behind};
 ghost use Rattle.told_bodies.specs.Bodies.{AmplitudeTold, EntryTold, WriteTold};
 

@@ -1,4 +1,6 @@
 // Inner: what C is told of a fault: its body, item, byte and cause behind pointers, and its number as the answer.
+#![tactic(auto)]
+
 ghost use Rattle.std.specs.Prelude.{◌≡◌};
 ghost use Rattle.told_causes.specs.Told.{code_of, four, WhyTold, BookTold, BodyTold};
 

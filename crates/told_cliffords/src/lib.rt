@@ -1,4 +1,6 @@
 // The one-wire Cliffords for bench software in C: an element behind a pointer, and the number of refusal as the answer. The exported calls of `topazfern` hand on to these.
+#![tactic(auto)]
+
 ghost use Rattle.std.specs.Prelude.{◌≡◌};
 ghost use Rattle.cliffords.specs.Closing.{product_number, inverse_number, closing_number, IsProduct, Undoes, Closes};
 ghost use Rattle.told_cliffords.specs.Told.{ElementTold};

@@ -1,4 +1,6 @@
 // Circuits as operators for bench software in C: answers behind pointers, and the number of refusal as the answer. The exported calls of `topazfern` hand on to these.
+#![tactic(auto)]
+
 ghost use Rattle.told_operator.specs.Told.{TellsSame, TellsPhase, SameTold, PhaseTold};
 
 use operator::{Aligned, Compared};

@@ -1,4 +1,6 @@
 // The paths of a table body for bench software in C: the four numbers and the power behind pointers, and the number of refusal as the answer. The exported call of `topazfern` hands on to this.
+#![tactic(auto)]
+
 ghost use Rattle.told_paths.specs.Told.{five, SumTold, PathsTold};
 
 use path_sum::PathSum;

@@ -1,4 +1,6 @@
 // The Leuven tableau for bench software in C: a verdict or signs behind a pointer, and the number of refusal as the answer. The exported calls of `topazfern` hand on to these.
+#![tactic(auto)]
+
 ghost use Rattle.told_tableau.specs.Told.{VerdictTold, PairTold};
 ghost use Rattle.told_tableau.specs.Inner.Tells.{TellsVerdict, TellsPair};
 

@@ -1,4 +1,6 @@
 // Inner: what the calls for C on a table share: the table that came out of a call, put back as the bytes that it lives in. Asks of its callers 1,293 bytes, and a normal table where the call was not refused.
+#![tactic(auto)]
+
 ghost use Rattle.std.specs.Prelude.{◌≡◌, length};
 ghost use Rattle.exact.specs.Refusal.{accepted};
 ghost use Rattle.image.specs.Image.{image_size};

@@ -1,4 +1,6 @@
 // The calls for C that ask a table in lent bytes for an entry or for its spread. Any bytes and any numbers are taken.
+#![tactic(auto)]
+
 ghost use Rattle.told.specs.Told.{behind};
 ghost use Rattle.told_tables_asks.specs.Asks.{EntryAsked, spreading, SpreadShown, SpreadAsked};
 

@@ -1,4 +1,6 @@
 // The calls for C that make a table fresh, give a bit out, or sum one. Any bytes and any numbers are taken.
+#![tactic(auto)]
+
 ghost use Rattle.told_tables.specs.Calls.{FreshTold, NewBitTold, rule_told, SumTold};
 ghost use Rattle.std.specs.Prelude.{◌≡◌};
 

@@ -1,4 +1,6 @@
 // The call for C that writes a table in lent bytes as a body of a book. Any bytes and any numbers are taken.
+#![tactic(auto)]
+
 ghost use Rattle.told_tables_books.specs.Books.{TableWriteTold};
 
 // The body of the table, without its labels, in an area from a start on.

@@ -1,4 +1,6 @@
 // The calls for C that turn, scale, tie or fix a table in lent bytes. Any bytes and any numbers are taken.
+#![tactic(auto)]
+
 ghost use Rattle.told_tables.specs.Calls.{TurnTold, ScaleTold, TieTold, FixTold};
 
 use exact::{Eighth, Power, Quarter, Slot};

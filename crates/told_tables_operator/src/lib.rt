@@ -1,4 +1,6 @@
 // The call for C that hands over the operator table of a circuit, in the bytes that it lends. Any bytes and any numbers are taken.
+#![tactic(auto)]
+
 ghost use Rattle.told_tables_operator.specs.Operator.{OperatorTold};
 
 // The operator table of a circuit of an edition: refused as the circuit is, then by 13 where the bytes are not those of a table.

@@ -1,4 +1,6 @@
 // The calls for bench software in C: over numbers and byte slices alone. Each takes any bytes and any numbers; where it answers a number of refusal, nothing that was lent has changed, but that a writer answers 0 bytes.
+#![tactic(auto)]
+
 ghost use Rattle.cliffords.specs.Closing.{product_number, inverse_number, closing_number, IsProduct, Undoes, Closes};
 ghost use Rattle.told_cliffords.specs.Told.{ElementTold};
 ghost use Rattle.told_tableau.specs.Told.{VerdictTold, PairTold};

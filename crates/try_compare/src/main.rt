@@ -1,5 +1,7 @@
 // Circuits read from standard input, each in both editions from its input to every output. For each a line: the edition, the phase of every amplitude, a point where it is zero, and the least and the most that the powers of
 // the others lie below 0; or the number that refuses it. The script tests/try_compare.py writes the circuits, and from products of their matrices what must be printed.
+#![tactic(auto)]
+
 use exact::{Amount, Answer};
 
 // More circuits than any input has.

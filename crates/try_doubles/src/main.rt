@@ -1,4 +1,6 @@
 // The doubles of a fixed list of amounts, a line for each: power, phase, and the bit patterns of the real and the imaginary part.
+#![tactic(auto)]
+
 ghost use Rattle.std.specs.Prelude.{T, not, ◌≡◌};
 ghost use Rattle.std.specs.Float.{binary64};
 ghost use Rattle.std.specs.Float.Ieee.{is_nan, to_bits};

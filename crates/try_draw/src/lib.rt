@@ -1,4 +1,6 @@
 // Pseudo-random numbers for the programs that compare: one for each stream and place, the same in every run.
+#![tactic(auto)]
+
 ghost use Rattle.std.specs.Prelude.{◌≡◌};
 ghost use Rattle.try_draw.specs.Word.{round, word_of};
 

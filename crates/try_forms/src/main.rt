@@ -1,5 +1,7 @@
 // Calls on a form and on ties, read from standard input, with any numbers. For each a line: a field, whether what comes out is proper or reduced, and a digest of what it
 // answers then. The script tests/try_forms.py writes the calls, and from plain sums what must be printed.
+#![tactic(auto)]
+
 mod on_form;
 mod on_ties;
 mod record;

@@ -4,7 +4,7 @@
 pub(crate) const SIZE: usize = 20;
 
 // A code, a small number, a side, whether little is printed, and two words.
-#[derive(Drop)]
+#[derive(Clone, Copy)]
 pub(crate) struct Record {
     pub code: u8,
     pub small: u8,

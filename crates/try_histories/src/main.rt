@@ -1,6 +1,8 @@
 // Calls read from standard input and made on eight tables. For each a line: the number of refusal, the slot of a new bit, the case of a sum or the places of a join, the spread, whether the fields
 // are what they were, whether the table is normal and without stray bits, and digests of its labels and of its entries. The script tests/try_histories.py writes the calls, and from plain sums over bit
 // values what must be printed.
+#![tactic(auto)]
+
 mod call;
 mod case;
 mod digest;

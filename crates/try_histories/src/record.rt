@@ -2,7 +2,7 @@
 use exact::Power;
 
 // A code, the table that it is about and a second one, a small number, a place, and a word; nothing of it counts where the input has ended.
-#[derive(Drop)]
+#[derive(Clone, Copy)]
 pub(crate) struct Record {
     pub ended: bool,
     pub code: u8,

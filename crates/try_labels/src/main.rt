@@ -1,4 +1,6 @@
 // The cases of request A10 that are worked by hand, run by the code: a line for each. The expected lines are worked by hand.
+#![tactic(auto)]
+
 use book_tables::Reading;
 use exact::{Label, Slot};
 use table::{Joined, Opened, Table};

@@ -1,4 +1,6 @@
 // Two odd sums and nothing else, so that the stack of one can be read off the program (tests/stack): slot 0, with slots 1 and 2 for neighbours, has the turns that standard input says.
+#![tactic(auto)]
+
 use exact::{Label, Power, Quarter, Slot};
 use form::Form;
 use labels::Labels;

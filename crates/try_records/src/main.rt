@@ -1,5 +1,7 @@
 // Records read from standard input: whole ones, and what of each comes before each of its measurements. For each a line: the chance of the record, then with outcome 0 of a wire behind it, then with outcome 1, each as a power, `none` or a refusal, and whether the two add up to the first. The script
 // tests/try_records.py writes the records, and from plain vectors in whole numbers what must be printed.
+#![tactic(auto)]
+
 use exact::{Chance, Told};
 
 // More records than any input has.

@@ -1,4 +1,6 @@
 // The cases of document 01 that are worked by hand, run by the code: a line for each, in that paper's order, with those of both editions, of repeated blocks and of elements by their words, then the spreads of request A1, the cases of request A6 and the turns of request A2. The expected lines are worked by hand.
+#![tactic(auto)]
+
 use call_answers::Counted;
 use doubles::Doubles;
 use exact::{Amount, Answer, Eighth, Label, Power, Quarter, Slot};
