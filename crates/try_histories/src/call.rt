@@ -3,6 +3,8 @@ use super::record::Record;
 use super::{case, digest, print, record};
 use exact::{Eighth, Label, Quarter, Slot};
 use state::Rule;
+use std::io;
+use std::io::Write;
 use table::{Changed, Table};
 
 // A call that answers nothing but the table.
@@ -18,39 +20,40 @@ fn changed(r: Record, t: Table) -> Changed {
 }
 
 // The table after the call of a code below 7 on `t`, a join with `other`; what else it answers is printed: the number of refusal or 0, the slot of a new bit, the case of a sum and the one that the fields before it say, the places of a join.
-pub(crate) fn made(r: Record, t: Table, other: Table) -> Table {
+pub(crate) fn made(out: &mut impl Write, r: Record, t: Table, other: Table) -> io::Result<Table> {
     let code = r.code;
     match code {
         0 => {
             let o = t.new_bit(Label((r.word % 65536) as u16));
-            print::number(o.refusal as u64);
-            print::number(o.slot.0 as u64);
-            o.table
+            print::number(out, o.refusal as u64)?;
+            print::number(out, o.slot.0 as u64)?;
+            Ok(o.table)
         }
         4 => {
             let s = t.state;
             let c = t.sum(Slot(r.word as usize));
             let rule = c.rule;
-            print::number(c.refusal as u64);
-            print::rule(rule);
-            print::rule(if c.refusal == 0 {
+            let by_fields = if c.refusal == 0 {
                 case::by_fields(s, r.word)
             } else {
                 Rule::None
-            });
-            c.table
+            };
+            print::number(out, c.refusal as u64)?;
+            print::rule(out, rule)?;
+            print::rule(out, by_fields)?;
+            Ok(c.table)
         }
         6 => {
             let j = t.join(other);
             let places = j.places;
-            print::number(j.refusal as u64);
-            print::number(digest::places(places) % 4294967296);
-            j.table
+            print::number(out, j.refusal as u64)?;
+            print::number(out, digest::places(places) % 4294967296)?;
+            Ok(j.table)
         }
         _ => {
             let c = changed(r, t);
-            print::number(c.refusal as u64);
-            c.table
+            print::number(out, c.refusal as u64)?;
+            Ok(c.table)
         }
     }
 }

@@ -31,14 +31,12 @@ pub(crate) fn entries(before: u64, t: Table, look: u64, n: u64) -> u64 {
     let m = live & look;
     let mut h = before;
     let mut x: u64 = 0;
-    let mut q: u64 = 0;
-    while q < 1024 {
+    for q in 0..1024u64 {
         h = entry(h, t, x | live & !look & try_draw::word(n, q));
         x = std::num::wrapping_sub_u64(x, m) & m;
         if x == 0 {
             return h;
         }
-        q += 1;
     }
     h
 }
@@ -46,10 +44,8 @@ pub(crate) fn entries(before: u64, t: Table, look: u64, n: u64) -> u64 {
 // The places of a join.
 pub(crate) fn places(places: [u8; 64]) -> u64 {
     let mut h: u64 = 0;
-    let mut v: usize = 0;
-    while v < 64 {
+    for v in 0..64usize {
         h = try_draw::word(h, places[v] as u64);
-        v += 1;
     }
     h
 }
@@ -57,11 +53,9 @@ pub(crate) fn places(places: [u8; 64]) -> u64 {
 // The labels of all slots.
 pub(crate) fn labels(ls: Labels) -> u64 {
     let mut h: u64 = 0;
-    let mut v: usize = 0;
-    while v < 64 {
+    for v in 0..64usize {
         let l = ls.at(Slot(v));
         h = try_draw::word(h, l.0 as u64);
-        v += 1;
     }
     h
 }
@@ -74,8 +68,7 @@ pub(crate) fn fields(s: State) -> u64 {
     let phase = f.phase;
     let mut h = amount(s.live, Amount::Some(power, phase));
     h = try_draw::word(h, t.count as u64);
-    let mut v: usize = 0;
-    while v < 64 {
+    for v in 0..64usize {
         let a = f.turns[v];
         let row = f.signs[v];
         let b = Tie {
@@ -84,7 +77,6 @@ pub(crate) fn fields(s: State) -> u64 {
         };
         h = try_draw::word(try_draw::word(h, a.0 as u64), row);
         h = try_draw::word(try_draw::word(h, b.side as u64), b.mask);
-        v += 1;
     }
     if s.zero { !h } else { h }
 }
@@ -95,8 +87,7 @@ pub(crate) fn stray(s: State) -> u64 {
     let t = s.ties;
     let mut found: u64 = 0;
     let mut leads: u64 = 0;
-    let mut v: usize = 0;
-    while v < 64 {
+    for v in 0..64usize {
         let a = f.turns[v];
         let m = t.masks[v];
         let lead = m & std::num::wrapping_sub_u64(0, m);
@@ -107,7 +98,6 @@ pub(crate) fn stray(s: State) -> u64 {
         };
         found = found | (own | f.signs[v] | m) & !s.live | leads & lead;
         leads = leads | lead;
-        v += 1;
     }
     found
 }

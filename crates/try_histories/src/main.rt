@@ -11,6 +11,8 @@ mod put;
 mod record;
 
 use record::Record;
+use std::io;
+use std::io::Write;
 use table::Table;
 
 // More records than any input has.
@@ -26,63 +28,71 @@ fn tidy(t: Table) -> u64 {
 }
 
 // The rest of the line of a call on the table `before`; where the entries are asked, the live bits of `look` take all values.
-fn show(before: Table, t: Table, look: u64, n: u64) {
+fn show(out: &mut impl Write, before: Table, t: Table, look: u64, n: u64) -> io::Result<()> {
     let s = before.state;
     let after = t.state;
     let spread = t.spread();
     let kept = digest::fields(s) == digest::fields(after)
         && digest::labels(before.labels) == digest::labels(t.labels);
-    print::spread(spread);
-    print::number(if kept { 1 } else { 0 });
-    print::number(tidy(t));
-    print::number(digest::labels(t.labels) % 4294967296);
+    print::spread(out, spread)?;
+    print::number(out, if kept { 1 } else { 0 })?;
+    print::number(out, tidy(t))?;
+    print::number(out, digest::labels(t.labels) % 4294967296)?;
     let h = try_draw::word(0, after.live);
-    print::last(digest::entries(h, t, look, n));
+    print::last(out, digest::entries(h, t, look, n))
 }
 
 // The table after record `n` on it, with a second table beside it.
-fn step(t: Table, other: Table, r: Record, look: u64, n: u64) -> Table {
+fn step(
+    out: &mut impl Write,
+    t: Table,
+    other: Table,
+    r: Record,
+    look: u64,
+    n: u64,
+) -> io::Result<Table> {
     let code = r.code;
     match code {
         0..=6 => {
-            let after = call::made(r, t, other);
-            show(t, after, look, n);
-            after
+            let after = call::made(out, r, t, other)?;
+            show(out, t, after, look, n)?;
+            Ok(after)
         }
         7 => {
-            print::last(digest::entry(0, t, r.word));
-            t
+            print::last(out, digest::entry(0, t, r.word))?;
+            Ok(t)
         }
-        8 => other,
-        9 => t,
+        8 => Ok(other),
+        9 => Ok(t),
         _ => {
             let s = t.state;
             let ls = t.labels;
-            Table {
+            Ok(Table {
                 state: put::field(s, r),
                 labels: put::label(ls, r),
-            }
+            })
         }
     }
 }
 
 // Record after record, to the end of the input.
-fn main() {
+fn main(rt: HostRuntime) -> io::Result<()> {
+    let out = &mut rt.stdout();
+    let mut input = rt.stdin();
     let fresh = Table::fresh();
     let mut tables = [fresh; 8];
     let mut looks = [0u64; 8];
-    let mut n: u64 = 0;
-    while n < MOST {
-        let r = record::next();
+    for n in 0..MOST {
+        let r = record::next(&mut input);
         if r.ended {
-            return;
+            return Ok(());
         }
         let i = (r.table % 8) as usize;
         let j = (r.other % 8) as usize;
         looks[i] = if r.code == 9 { r.word } else { looks[i] };
         let t = tables[i];
         let other = tables[j];
-        tables[i] = step(t, other, r, looks[i], n);
-        n += 1;
+        tables[i] = step(out, t, other, r, looks[i], n)?;
     }
+    Ok(())
 }

@@ -1,5 +1,6 @@
 // A record of standard input: twelve bytes that say a call, a question, or what to put where.
 use exact::Power;
+use std::io::Read;
 
 // A code, the table that it is about and a second one, a small number, a place, and a word; nothing of it counts where the input has ended.
 #[derive(Clone, Copy)]
@@ -14,9 +15,9 @@ pub(crate) struct Record {
 }
 
 // The next record: both tables in its second byte, the word in the last eight.
-pub(crate) fn next() -> Record {
+pub(crate) fn next(input: &mut impl Read) -> Record {
     let mut bytes = [0u8; 12];
-    let n = io::read_full(0, &mut bytes);
+    let n = input::fill(input, &mut bytes).bytes;
     let tables = fields::read_u8(&bytes, 1);
     Record {
         ended: n < 12,

@@ -5,6 +5,8 @@ use exact::{Label, Power, Quarter, Slot};
 use form::Form;
 use labels::Labels;
 use state::State;
+use std::io;
+use std::io::Write;
 use table::{Summed, Table};
 use ties::Ties;
 
@@ -33,25 +35,26 @@ fn summed(t: Table) -> Summed {
 }
 
 // A line: the refusal or 0, the phase, and what is left of slot 1.
-fn show(c: Summed) {
+fn show(out: &mut impl Write, c: Summed) -> io::Result<()> {
     let s = c.table.state;
     let f = s.form;
     let one = f.turn_at(Slot(1));
     let row = f.row_at(Slot(1));
-    io::write_all(1, b"refusal ");
-    io::print_decimal(1, c.refusal as u64);
-    io::write_all(1, b", phase ");
-    io::print_decimal(1, f.phase.0 as u64);
-    io::write_all(1, b", slot 1: turn ");
-    io::print_decimal(1, one.0 as u64);
-    io::write_all(1, b", row ");
-    io::print_decimal(1, row);
-    io::write_all(1, b"\n");
+    out.write_all(b"refusal ")?;
+    output::number(out, c.refusal as u64)?;
+    out.write_all(b", phase ")?;
+    output::number(out, f.phase.0 as u64)?;
+    out.write_all(b", slot 1: turn ")?;
+    output::number(out, one.0 as u64)?;
+    out.write_all(b", row ")?;
+    output::number(out, row)?;
+    out.write_all(b"\n")
 }
 
-fn main() {
+fn main(rt: HostRuntime) -> io::Result<()> {
+    let out = &mut rt.stdout();
     let mut bytes = [0u8; 2];
-    io::read_full(0, &mut bytes);
-    show(summed(three(Quarter(bytes[0]))));
-    show(summed(three(Quarter(bytes[1]))));
+    input::fill(&mut rt.stdin(), &mut bytes);
+    show(out, summed(three(Quarter(bytes[0]))))?;
+    show(out, summed(three(Quarter(bytes[1]))))
 }

@@ -1,0 +1,5 @@
+-- `same` meets its contract: the answer of the call, told.
+use Rattle.told_operator.proofs.same.Goals as goal
+
+pub returns : goal.returns
+returns c = record { answer = c.same-c.result; is = c.same-c.ensures; tells = c.tell_same.ensures }
