@@ -27,7 +27,7 @@ def surface():
 def listed():
     """The crates of crates.txt."""
     lines = (ROOT / "crates.txt").read_text(encoding="utf-8").split("\n")
-    return [l.split(":")[0].strip() for l in lines if ":" in l.split("#")[0]]
+    return [l.split(":")[0].split()[0] for l in lines if ":" in l.split("#")[0]]
 
 
 def names_of(text):
