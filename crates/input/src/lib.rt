@@ -1,7 +1,10 @@
-// Inner: standard input read to its end, for the programs that list a book.
+// Inner: a reader read to its end, for the programs that list a book or take records.
 #![tactic(auto)]
 
-ghost use Rattle.std.specs.Prelude.{◌≤◌, ◌≡◌, length, take};
+ghost use Rattle.std.specs.Prelude.{◌≤◌, ◌<◌, ◌≡◌, length, take, IsTrue};
+ghost use Rattle.std.specs.Io.KnownBytes.{Consumes, IsAtEnd};
+
+use std::io::Read;
 
 // What was read: how many bytes, and whether the input ended or filled the area (a read that failed did neither).
 #[derive(Clone, Copy)]
@@ -11,24 +14,29 @@ pub struct Input {
 }
 
 // Reads once, into the front of a part.
-fn more(part: &mut [u8]) -> Input
-    ensures { (result.bytes ≤ length part.new) × (length part.new ≡ length part.old) }
+fn more<R: Read>(reader: &mut R, part: &mut [u8]) -> Input
+    ensures within { (result.bytes ≤ length part.new) × (length part.new ≡ length part.old) }
+    ensures bytes { Consumes (R.remaining reader.old) (R.remaining reader.new) (take result.bytes part.new) }
+    ensures end { IsTrue result.whole → result.bytes ≡ 0 → 0 < length part.new → IsAtEnd (R.remaining reader.new) }
 {
-    let got = libc::read(0, part);
-    let n = io::count(got, part);
-    Input {
-        bytes: n,
-        whole: got >= 0,
+    match reader.read(part) {
+        Ok(bytes) => Input { bytes, whole: true },
+        Err(_) => Input {
+            bytes: 0,
+            whole: false,
+        },
     }
 }
 
-// Reads until the input ends, the area is full or a read fails.
-pub fn fill(area: &mut [u8]) -> Input
-    ensures { (result.bytes ≤ length area.new) × (result.bytes ≡ length (take result.bytes area.new)) }
+// Reads until the input ends, the area is full or a read fails: the bytes that were read stand at its front.
+pub fn fill<R: Read>(reader: &mut R, area: &mut [u8]) -> Input
+    ensures within { (result.bytes ≤ length area.new) × (result.bytes ≡ length (take result.bytes area.new)) }
+    ensures bytes { Consumes (R.remaining reader.old) (R.remaining reader.new) (take result.bytes area.new) }
+    ensures end { IsTrue result.whole → result.bytes < length area.new → IsAtEnd (R.remaining reader.new) }
 {
     let mut n = 0usize;
     while n < area.len() {
-        let got = more(&mut area[n..]);
+        let got = more(reader, &mut area[n..]);
         let bytes = got.bytes;
         if bytes == 0 {
             return Input {

@@ -8,71 +8,73 @@ mod record;
 
 use form::Form;
 use record::Record;
+use std::io;
+use std::io::Write;
 use ties::Ties;
 
 // More records than any input has.
 const MOST: u64 = 100000;
 
 // A number, and the space behind it.
-fn number(n: u64) {
-    io::print_decimal(1, n);
-    io::write_all(1, b" ");
+fn number(out: &mut impl Write, n: u64) -> io::Result<()> {
+    output::number(out, n)?;
+    out.write_all(b" ")
 }
 
 // A digest's lower half, and the end of the line.
-fn last(h: u64) {
-    io::print_hex(1, h % 4294967296, 8);
-    io::write_all(1, b"\n");
+fn last(out: &mut impl Write, h: u64) -> io::Result<()> {
+    output::hexadecimal(out, h % 4294967296, 8)?;
+    out.write_all(b"\n")
 }
 
 // The line of a form: its phase and phases, and unless it is brief its shape.
-fn show_form(f: Form, brief: u8, n: u64) {
+fn show_form(out: &mut impl Write, f: Form, brief: u8, n: u64) -> io::Result<()> {
     let c = f.phase;
     let h = on_form::phases(f, n);
-    number(c.0 as u64);
+    number(out, c.0 as u64)?;
     if brief == 1 {
-        last(h);
-        return;
+        return last(out, h);
     }
-    number(on_form::proper(f));
-    last(on_form::slots(h, f));
+    number(out, on_form::proper(f))?;
+    last(out, on_form::slots(h, f))
 }
 
 // The line of ties.
-fn show_ties(t: Ties, kind: u8) {
-    number(t.count as u64);
-    number(on_ties::reduced(t));
-    last(on_ties::places(on_ties::holds(t, kind), t));
+fn show_ties(out: &mut impl Write, t: Ties, kind: u8) -> io::Result<()> {
+    number(out, t.count as u64)?;
+    number(out, on_ties::reduced(t))?;
+    last(out, on_ties::places(on_ties::holds(t, kind), t))
 }
 
 // The ties after a record, or the line of a tie that they reduce.
-fn ties_after(t: Ties, r: Record) -> Ties {
+fn ties_after(out: &mut impl Write, t: Ties, r: Record) -> io::Result<Ties> {
     if r.code == 23 {
-        last(on_ties::reduce(t, r));
-        return t;
+        last(out, on_ties::reduce(t, r))?;
+        return Ok(t);
     }
     let after = on_ties::moved(t, r);
-    show_ties(after, r.small);
-    after
+    show_ties(out, after, r.small)?;
+    Ok(after)
 }
 
 // Record after record, to the end of the input.
-fn main() {
+fn main(rt: HostRuntime) -> io::Result<()> {
+    let out = &mut rt.stdout();
+    let mut input = rt.stdin();
     let mut f = Form::blank();
     let mut t = Ties::none();
-    let mut n: u64 = 0;
-    while n < MOST {
+    for n in 0..MOST {
         let mut bytes = [0u8; record::SIZE];
-        if io::read_full(0, &mut bytes) < record::SIZE {
-            return;
+        if input::fill(&mut input, &mut bytes).bytes < record::SIZE {
+            return Ok(());
         }
         let r = record::read(&bytes);
         if r.code < 16 {
             f = on_form::moved(f, r);
-            show_form(f, r.brief, n);
+            show_form(out, f, r.brief, n)?;
         } else {
-            t = ties_after(t, r);
+            t = ties_after(out, t, r)?;
         }
-        n += 1;
     }
+    Ok(())
 }

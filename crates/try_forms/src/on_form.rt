@@ -8,11 +8,9 @@ fn garbage(r: Record) -> Form {
     let mut f = Form::blank();
     let c = Eighth(r.small);
     f.phase = c;
-    let mut v: usize = 0;
-    while v < 64 {
+    for v in 0..64usize {
         f.turns[v] = Quarter(r.small);
         f.signs[v] = try_draw::word(r.word, v as u64);
-        v += 1;
     }
     f
 }
@@ -42,11 +40,9 @@ pub(crate) fn proper(f: Form) -> u64 {
 // The turns and rows of the slots 0 to 67.
 pub(crate) fn slots(before: u64, f: Form) -> u64 {
     let mut h = before;
-    let mut v: usize = 0;
-    while v < 68 {
+    for v in 0..68usize {
         let a = f.turn_at(Slot(v));
         h = try_draw::word(try_draw::word(h, a.0 as u64), f.row_at(Slot(v)));
-        v += 1;
     }
     h
 }
@@ -54,13 +50,11 @@ pub(crate) fn slots(before: u64, f: Form) -> u64 {
 // The phases at 16 assignments of stream `n`, every second one of two slots at most.
 pub(crate) fn phases(f: Form, n: u64) -> u64 {
     let mut h: u64 = 0;
-    let mut q: u64 = 0;
-    while q < 16 {
+    for q in 0..16u64 {
         let w = try_draw::word(n, q);
         let pair = bits::single((w % 64) as usize) | bits::single((w / 64 % 64) as usize);
         let e = f.phase_at(if q % 2 == 0 { w } else { pair });
         h = try_draw::word(h, e.0 as u64);
-        q += 1;
     }
     h
 }

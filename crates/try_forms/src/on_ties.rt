@@ -7,11 +7,9 @@ use ties::{Tie, Ties};
 fn garbage(r: Record) -> Ties {
     let mut t = Ties::none();
     t.count = r.other as usize;
-    let mut j: usize = 0;
-    while j < 64 {
+    for j in 0..64usize {
         t.masks[j] = try_draw::word(r.word, j as u64);
         t.sides[j] = r.side;
-        j += 1;
     }
     t
 }
@@ -50,12 +48,10 @@ pub(crate) fn reduced(t: Ties) -> u64 {
 // The places 0 to 67, and the ties found by the leads and the bits 0 to 67.
 pub(crate) fn places(before: u64, t: Ties) -> u64 {
     let mut h = before;
-    let mut j: usize = 0;
-    while j < 68 {
+    for j in 0..68usize {
         h = tie(h, t.tie_at(j));
         h = try_draw::word(h, ties_search::lead_index(t, Slot(j)) as u64);
         h = try_draw::word(h, ties_search::last_with(t, Slot(j)) as u64);
-        j += 1;
     }
     h
 }
@@ -69,15 +65,13 @@ pub(crate) fn holds(t: Ties, kind: u8) -> u64 {
     };
     let mut h: u64 = 0;
     let mut x: u64 = 0;
-    let mut q: u64 = 0;
-    while q < 1024 {
+    for q in 0..1024u64 {
         h = if ties_search::hold_at(t, x) {
             try_draw::word(h, x)
         } else {
             h
         };
         x = std::num::wrapping_sub_u64(x, m) & m;
-        q += 1;
     }
     h
 }

@@ -8,7 +8,7 @@ use lib.IntN.{ℤ, pos, negsuc}
 use lib.Dec.{T, ltb, leb, eqb, eqb→eq, leb→le, nleb→lt}
 use lib.Pow.{pow-add, pow_pos}
 use borrow.Author.Tests.{le-leb, lt-leb}
-use lib.Ieee.{Float, fin, Format, binary64, prec, emax, low, up, down, minus, fits}
+use lib.Ieee.{Float, fin, inf, nan, Format, binary64, prec, emax, low, up, down, minus, fits}
 use lib.Ieee.Digits.{minus_val}
 use lib.Ieee.Fits.{and_l, down_pos}
 use lib.Ieee.Exact.{HasValue}
@@ -54,6 +54,8 @@ no_zero m a c u d o h e =
 
 -- a value that fits and has the value m * 2 ^ a / 2 ^ b, with m odd, is written so
 pub unique : (x : Float) (m a b : ℕ) → m % 2 ≡ 1 → T (fits binary64 x) → HasValue x false (m * 2 ^ a) (2 ^ b) → x ≡ ratio m a b
+unique nan m a b o p v = elim v [ ]
+unique (inf _) m a b o p v = elim v [ ]
 unique (fin t zero e) m a b o p v = absurd (no_zero m a (2 ^ b) (up e) (down e) o (down_pos e) v.1)
 unique (fin t (suc n) (pos k)) m a b o p v =
     let r = odd_pow (suc n) m (k + b) a (is_odd binary64 t n (pos k) p) o (ap (λ (x : ℕ). suc n * x) (pow-add 2 k b) ∙ sym (mul_assoc (suc n) (2 ^ k) (2 ^ b)) ∙ v.1 ∙ mul-one (m * 2 ^ a)) in

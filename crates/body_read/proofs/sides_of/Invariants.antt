@@ -1,0 +1,12 @@
+-- `sides_of` meets its contract: the invariant is of the places below j.
+use mathlib.Core.Path.{◌≡◌}
+use Prim.Native.Nat.{◌≤◌, ◌-◌}
+use Rattle.body_bytes.specs.Body.{side_of}
+use Rattle.body_read.specs.Table.{padded}
+use Rattle.body_read.proofs.sides_of.Given as goal
+
+abbrev pub invariant-loop-j : goal.invariant-loop-j
+invariant-loop-j l = (l.j ≤ l.k) × (l.sides ≡ padded 0 l.j (side_of l.width l.bs))
+
+abbrev pub decreases-loop-j : goal.decreases-loop-j
+decreases-loop-j l = l.k - l.j
