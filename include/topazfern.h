@@ -1,6 +1,6 @@
 /* Topazfern for programs in C: exact amplitudes, listings and table bodies, over numbers and bytes.
  *
- * Link with libtopazfern.a (x86-64 Linux): rt staticlib topazfern; cc program.c target/staticlib/libtopazfern.a
+ * Link with libtopazfern.a (x86-64-v2 Linux): in crates/topazfern rt lib; cc program.c crates/topazfern/out/libtopazfern.a
  *
  * Each call takes any bytes and any numbers, ends, keeps nothing and calls nothing back. A call that answers a number of
  * refusal (1..17, below) has changed nothing behind its pointers, but that a writer sets *bytes, and an edit *new_length, to 0. The caller owes what C

@@ -465,7 +465,7 @@ def chance_commands(command: Callable[[str, Does, str], argparse.ArgumentParser]
 def ready() -> None:
     """In a clone, makes the library where it is not there or older than the archive that it is made of."""
     maker = BESIDE.parents[1] / "make-library"
-    archive = BESIDE.parents[2] / "target" / "staticlib" / "libtopazfern.a"
+    archive = BESIDE.parents[2] / "crates" / "topazfern" / "out" / "libtopazfern.a"
     if os.environ.get(VARIABLE) or not maker.is_file():
         return
     if BESIDE.is_file() and not (archive.is_file() and archive.stat().st_mtime > BESIDE.stat().st_mtime):

@@ -5,10 +5,13 @@ from pathlib import Path
 ROOT = Path(__file__).resolve().parents[2]
 CRATES = ROOT / "crates"
 
-USE = re.compile(r"^\s*(?:pub\s+)?(?:ghost\s+)?use\s+Rattle·(\w+)(?:·\w+)?\.specs\.([\w.]+?)\.\{([^}]*)\};?\s*$")
+# an item may go on over several lines
+USE = re.compile(r"^[ \t]*(?:pub\s+)?(?:ghost\s+)?use\s+([^;{}\n]*)(?:\{([^}]*)\})?[^\n]*$", re.M)
+SPECS = re.compile(r"Rattle\.(\w+)\.specs\.([\w.]+?)\.\s*")
 HEAD = re.compile(r"^(?:abbrev\s+|unfoldable\s+)?(?:pub\s+)?(?:record\s+|data\s+)?([^\s:({]+)")
 STARTS = re.compile(r"^(abbrev|unfoldable|pub|record|data)\b")
-TOKEN = re.compile(r"[^\s(){}\[\],;.⌜⌝λ]+")
+TOKEN = re.compile(r"[^\s(){}\[\],;.λ]+")
+CLAUSE = re.compile(r"\s*(?:requires|ensures)\b")
 FUNCTION = re.compile(r"^\s*(?:#\[[^\]]*\]\s*)?(pub(?:\(\w+\))? )?(?:extern \"C\" )?fn (\w+)")
 
 
@@ -24,24 +27,29 @@ def surface():
 def listed():
     """The crates of crates.txt."""
     lines = (ROOT / "crates.txt").read_text(encoding="utf-8").split("\n")
-    return [l.split(":")[0].strip() for l in lines if ":" in l.split("#")[0]]
+    return [l.split(":")[0].split()[0] for l in lines if ":" in l.split("#")[0]]
 
 
 def names_of(text):
-    """The words of a text, an infix operator under its own name as well: `a gives b` has `_gives_`."""
+    """The words of a text, an infix operator under its own name as well: `a gives b` has `◌gives◌`."""
     words = set(TOKEN.findall(text))
-    return words | {f"_{w}_" for w in words}
+    return words | {f"◌{w}◌" for w in words}
 
 
 def used(lines):
-    """What the use lines bring in: a name, and the crate and the file that it comes from."""
+    """What the use items bring in: a name, and the crate, the file and the name there that it comes from."""
     out = {}
-    for line in lines:
-        m = USE.match(line)
-        if m:
-            for name in m.group(3).split(","):
-                out[name.strip()] = (m.group(1), m.group(2))
+    for item in USE.finditer("\n".join(lines)):
+        place = SPECS.fullmatch(item.group(1))
+        for name in (item.group(2) or "").split(",") if place else ():
+            there, _, here = (part.strip() for part in name.partition(" as "))
+            out[here or there] = (*place.groups(), there)
     return out
+
+
+def unused(lines):
+    """The lines, those of use items left empty."""
+    return USE.sub(lambda item: "\n" * item.group(0).count("\n"), "\n".join(lines)).split("\n")
 
 
 class Definitions:
@@ -50,8 +58,8 @@ class Definitions:
     def __init__(self, path):
         lines = path.read_text(encoding="utf-8").split("\n")
         self.path, self.uses, self.lines, name = path, used(lines), {}, None
-        for line in lines:
-            if not line.strip() or line.startswith(("--", "use ", "pub use ", "pub mod ", "infix")):
+        for line in unused(lines):
+            if not line.strip() or line.startswith(("--", "pub mod ", "infix")):
                 continue
             if STARTS.match(line):
                 name = HEAD.match(line).group(1)
@@ -78,8 +86,8 @@ def find(files, crate, place, name):
         return None
     if name in file.lines:
         return crate, place, name
-    if name in file.uses and file.uses[name] != (crate, place):
-        return find(files, *file.uses[name], name)
+    if name in file.uses and file.uses[name] != (crate, place, name):
+        return find(files, *file.uses[name])
     return None
 
 
@@ -91,7 +99,7 @@ def cites(files, found):
         if word in file.lines:
             yield crate, place, word
         elif word in file.uses:
-            there = find(files, *file.uses[word], word)
+            there = find(files, *file.uses[word])
             if there:
                 yield there
 
@@ -106,8 +114,10 @@ def functions(crate):
             if not m:
                 at += 1
                 continue
-            head, at = [lines[at]], at + 1
-            while at < len(lines) and not lines[at - 1].rstrip().endswith("{") and lines[at].strip() != "{":
+            head, deep, at = [lines[at]], 0, at + 1
+            # the body opens at the end of a line of the head, or on a line of its own; a clause closes the braces that it opens
+            while at < len(lines) and (deep or not lines[at - 1].rstrip().endswith("{") and lines[at].strip() != "{"):
+                deep += lines[at].count("{") - lines[at].count("}") if deep or CLAUSE.match(lines[at]) else 0
                 head.append(lines[at])
                 at += 1
             yield path, m.group(2), (m.group(1) or "").strip() == "pub", head, brings
@@ -116,7 +126,7 @@ def functions(crate):
 def stated(lines, names):
     """The statements of the laws of these names, with what the modules around them are about; all of the file where names is None."""
     if names is None:
-        return "\n".join(line for line in lines if not line.startswith(("--", "use ")))
+        return "\n".join(line for line in unused(lines) if not line.startswith("--"))
     text, modules, inside = [], [], None
     for line in lines:
         word = line.strip().removeprefix("pub ").split(" ")[0]
