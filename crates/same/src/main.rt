@@ -5,6 +5,8 @@ ghost use Rattle.std.specs.Prelude.{◌≡◌, ◌+◌, ◌≤◌, length};
 
 use contents::Entry;
 use operator::Aligned;
+use std::io;
+use std::io::{IsTerminal, Write};
 
 // Where a body is no circuit, or there is none.
 const NO_CIRCUIT: u8 = 10;
@@ -69,73 +71,84 @@ fn compared(book: &[u8], a: Entry, b: Entry) -> Aligned {
 }
 
 // The line of a pair.
-fn show(j: usize, r: Aligned) {
-    io::print_decimal(1, j as u64);
+fn show(out: &mut impl Write, j: usize, r: Aligned) -> io::Result<()> {
+    output::number(out, j as u64)?;
     match r {
         Aligned::Refused(n) => {
-            io::write_all(1, b" refused ");
-            io::print_decimal(1, n as u64);
+            out.write_all(b" refused ")?;
+            output::number(out, n as u64)?;
         }
         Aligned::By(p) => {
-            io::write_all(1, b" same");
+            out.write_all(b" same")?;
             if p.0 != 0 {
-                io::write_all(1, b" up to ");
-                io::print_decimal(1, p.0 as u64);
+                out.write_all(b" up to ")?;
+                output::number(out, p.0 as u64)?;
             }
         }
         Aligned::Differ => {
-            io::write_all(1, b" differ");
+            out.write_all(b" differ")?;
         }
     }
-    io::write_all(1, b"\n");
+    out.write_all(b"\n")
 }
 
 // The lines of a book whose contents are good. A last circuit without another is refused by 14.
-fn pairs(book: &[u8]) {
+fn pairs(out: &mut impl Write, book: &[u8]) -> io::Result<()> {
     let n = contents::count(book);
-    let mut j = 0usize;
-    while j < 8 {
+    for j in 0..8usize {
         if n < 2 * j + 1 {
-            return;
+            return Ok(());
         }
         let a = contents::entry_at(book, 2 * j);
         if n == 2 * j + 1 {
-            show(j, Aligned::Refused(beside(book, a, exact::NO_BODY)));
-            return;
+            return show(out, j, Aligned::Refused(beside(book, a, exact::NO_BODY)));
         }
-        show(j, compared(book, a, contents::entry_at(book, 2 * j + 1)));
-        j += 1;
+        show(
+            out,
+            j,
+            compared(book, a, contents::entry_at(book, 2 * j + 1)),
+        )?;
     }
+    Ok(())
 }
 
 // A book whose header or contents are at fault is the single line of its number, as it is listed.
-fn compare(book: &[u8]) {
+fn compare(out: &mut impl Write, book: &[u8]) -> io::Result<()> {
     let number = contents::test(book);
     if number != 0 {
-        io::write_all(1, b"refused ");
-        io::print_decimal(1, number as u64);
-        io::write_all(1, b"\n");
-        return;
+        out.write_all(b"refused ")?;
+        output::number(out, number as u64)?;
+        return out.write_all(b"\n");
     }
-    pairs(book);
+    pairs(out, book)
+}
+
+// A message on standard error; where it cannot be written nobody can be told.
+fn tell(errors: &mut impl Write, message: &[u8]) {
+    let _ = errors.write_all(message);
 }
 
 // Someone who starts the program at a terminal learns what it waits for.
-fn hint() {
-    if libc::isatty(0) == 1 {
-        io::write_all(2, b"same: reads a book from standard input (same < FILE)\n");
+fn hint(input: &impl IsTerminal, errors: &mut impl Write) {
+    if input.is_terminal() {
+        tell(
+            errors,
+            b"same: reads a book from standard input (same < FILE)\n",
+        );
     }
 }
 
 // That a book has more than 60,000 bytes is all that matters of a longer one.
-fn main() {
-    hint();
+fn main(rt: HostRuntime) -> io::Result<()> {
+    let mut input = rt.stdin();
+    let mut errors = rt.stderr();
+    hint(&input, &mut errors);
     let mut area = [0u8; 60001];
-    let read = input::fill(&mut area);
+    let read = input::fill(&mut input, &mut area);
     let n = read.bytes;
     if read.whole {
-        compare(&area[..n]);
-    } else {
-        io::write_all(2, b"same: standard input cannot be read\n");
+        return compare(&mut rt.stdout(), &area[..n]);
     }
+    tell(&mut errors, b"same: standard input cannot be read\n");
+    Ok(())
 }

@@ -3,6 +3,8 @@
 #![tactic(auto)]
 
 use exact::{Amount, Answer};
+use std::io;
+use std::io::Write;
 
 // More circuits than any input has.
 const MOST: u64 = 100000;
@@ -28,90 +30,97 @@ fn below(power: i32) -> u64 {
 }
 
 // How far the power of an answer lies below 0, of zero `NONE`; its phase is printed.
-fn shown(a: Answer) -> u64 {
+fn shown(out: &mut impl Write, a: Answer) -> io::Result<u64> {
     match a {
-        Answer::Refused(_) => NONE,
+        Answer::Refused(_) => Ok(NONE),
         Answer::Is(amount) => match amount {
             Amount::Zero => {
-                io::write_all(1, b".");
-                NONE
+                out.write_all(b".")?;
+                Ok(NONE)
             }
             Amount::Some(power, phase) => {
-                io::print_decimal(1, phase.0 as u64);
-                below(power.0)
+                output::number(out, phase.0 as u64)?;
+                Ok(below(power.0))
             }
         },
     }
 }
 
 // The amplitudes from an input to every output: their phases, then the least and the most depth of their powers.
-fn outputs(edition: u8, width: u8, input: u32, gates: &[u8]) {
+fn outputs(
+    out: &mut impl Write,
+    edition: u8,
+    width: u8,
+    input: u32,
+    gates: &[u8],
+) -> io::Result<()> {
     if width > MOST_WIDTH {
-        return;
+        return Ok(());
     }
     let strings = (1u64 << width) % 65;
     let mut least = NONE;
     let mut most: u64 = 0;
-    let mut q: u64 = 0;
-    while q < strings {
-        let depth = shown(circuit::amplitude(edition, width, input, q as u32, gates));
+    for q in 0..strings {
+        let depth = shown(
+            out,
+            circuit::amplitude(edition, width, input, q as u32, gates),
+        )?;
         least = if depth < least { depth } else { least };
         most = if depth == NONE || depth < most {
             most
         } else {
             depth
         };
-        q += 1;
     }
-    io::write_all(1, b" ");
-    io::print_decimal(1, least);
-    io::write_all(1, b" ");
-    io::print_decimal(1, most);
-    io::write_all(1, b"\n");
+    out.write_all(b" ")?;
+    output::number(out, least)?;
+    out.write_all(b" ")?;
+    output::number(out, most)?;
+    out.write_all(b"\n")
 }
 
 // The line of a circuit of an edition: its items stand between the head and an end.
-fn line(edition: u8, bytes: &[u8], end: usize) {
+fn line(out: &mut impl Write, edition: u8, bytes: &[u8], end: usize) -> io::Result<()> {
     if end < HEAD {
-        return;
+        return Ok(());
     }
     if bytes.len() < end {
-        return;
+        return Ok(());
     }
     let width = fields::read_u8(bytes, 0);
     let input = fields::read_u8(bytes, 1) as u32;
     let n = circuit::number(edition, width, input, 0, &bytes[HEAD..end]);
-    io::print_decimal(1, edition as u64);
+    output::number(out, edition as u64)?;
     if n != 0 {
-        io::write_all(1, b" refused ");
-        io::print_decimal(1, n as u64);
-        io::write_all(1, b"\n");
-        return;
+        out.write_all(b" refused ")?;
+        output::number(out, n as u64)?;
+        return out.write_all(b"\n");
     }
-    io::write_all(1, b" ");
-    outputs(edition, width, input, &bytes[HEAD..end]);
+    out.write_all(b" ")?;
+    outputs(out, edition, width, input, &bytes[HEAD..end])
 }
 
 // The two lines of a circuit.
-fn tried(bytes: [u8; SIZE]) {
+fn tried(out: &mut impl Write, bytes: [u8; SIZE]) -> io::Result<()> {
     let count = bytes[2] as usize;
     if count > MOST_ITEMS {
-        return;
+        return Ok(());
     }
     let end = HEAD + 3 * count;
-    line(editions::FIRST, &bytes, end);
-    line(editions::SECOND, &bytes, end);
+    line(out, editions::FIRST, &bytes, end)?;
+    line(out, editions::SECOND, &bytes, end)
 }
 
 // Circuit after circuit, to the end of the input.
-fn main() {
-    let mut n: u64 = 0;
-    while n < MOST {
+fn main(rt: HostRuntime) -> io::Result<()> {
+    let out = &mut rt.stdout();
+    let mut input = rt.stdin();
+    for _ in 0..MOST {
         let mut bytes = [0u8; SIZE];
-        if io::read_full(0, &mut bytes) < SIZE {
-            return;
+        if input::fill(&mut input, &mut bytes).bytes < SIZE {
+            return Ok(());
         }
-        tried(bytes);
-        n += 1;
+        tried(out, bytes)?;
     }
+    Ok(())
 }

@@ -3,6 +3,8 @@
 #![tactic(auto)]
 
 use exact::{Chance, Told};
+use std::io;
+use std::io::Write;
 
 // More records than any input has.
 const MOST: u64 = 100000;
@@ -34,19 +36,17 @@ fn number_of(t: Told) -> u64 {
 }
 
 // A number and the space behind it, as what it stands for.
-fn show(n: u64) {
+fn show(out: &mut impl Write, n: u64) -> io::Result<()> {
     if n >= REFUSED {
-        io::write_all(1, b"refused ");
-        io::print_decimal(1, n - REFUSED);
-        io::write_all(1, b" ");
-        return;
+        out.write_all(b"refused ")?;
+        output::number(out, n - REFUSED)?;
+        return out.write_all(b" ");
     }
     if n == NONE {
-        io::write_all(1, b"none ");
-        return;
+        return out.write_all(b"none ");
     }
-    io::print_decimal(1, n);
-    io::write_all(1, b" ");
+    output::number(out, n)?;
+    out.write_all(b" ")
 }
 
 // Whether the chances b and c add up to a: two halves of it, or one of them all of it.
@@ -77,12 +77,12 @@ fn asked(bytes: &[u8], end: usize) -> u64 {
 }
 
 // The line of a record.
-fn tried(given: [u8; SIZE]) {
+fn tried(out: &mut impl Write, given: [u8; SIZE]) -> io::Result<()> {
     let mut bytes = given;
     let wire = bytes[1];
     let count = bytes[2] as usize;
     if count > MOST_ITEMS {
-        return;
+        return Ok(());
     }
     let end = HEAD + 3 * count;
     let a = asked(&bytes, end);
@@ -92,25 +92,25 @@ fn tried(given: [u8; SIZE]) {
     let b = asked(&bytes, end + 3);
     bytes[end + 2] = 1;
     let c = asked(&bytes, end + 3);
-    show(a);
-    show(b);
-    show(c);
+    show(out, a)?;
+    show(out, b)?;
+    show(out, c)?;
     if adds(a, b, c) {
-        io::write_all(1, b"adds\n");
-        return;
+        return out.write_all(b"adds\n");
     }
-    io::write_all(1, b"fails\n");
+    out.write_all(b"fails\n")
 }
 
 // Record after record, to the end of the input.
-fn main() {
-    let mut n: u64 = 0;
-    while n < MOST {
+fn main(rt: HostRuntime) -> io::Result<()> {
+    let out = &mut rt.stdout();
+    let mut input = rt.stdin();
+    for _ in 0..MOST {
         let mut bytes = [0u8; SIZE];
-        if io::read_full(0, &mut bytes) < SIZE {
-            return;
+        if input::fill(&mut input, &mut bytes).bytes < SIZE {
+            return Ok(());
         }
-        tried(bytes);
-        n += 1;
+        tried(out, bytes)?;
     }
+    Ok(())
 }

@@ -1,0 +1,15 @@
+-- What a hole with a `0` and a width shows of a number is its digits behind zeros.
+use Rattle.std.proofs.Common.{false, ◌≡◌, ℕ, List, [], arith}
+use Rattle.std.proofs.lemmas.Grind.{common_steps}
+use Rattle.std.specs.Fmt.{format_spec, padded_integral, char_count}
+use Rattle.output.specs.Inner.Padded.{zero_padded}
+use Rattle.output.proofs.hexadecimal.Goals as goal
+
+zeros_in_front : (w : ℕ) (text : List ℕ) → padded_integral (format_spec 32 0 4 w 18446744073709551615) false [] text ≡ zero_padded w text
+unfolding padded_integral char_count
+zeros_in_front w text = grind (arith, common_steps)
+
+pub returns : goal.returns
+returns g c =
+    let written = rw c.laid_out.ensures at (rw c.in_radix.ensures at c.write.ensures.bytes) in
+    rw (← zeros_in_front c.args.width _) written
