@@ -4,7 +4,7 @@
 ghost use Rattle.std.specs.Prelude.{◌≡◌};
 ghost use Rattle.editions.specs.Edition.{good_edition};
 
-// Code 7 is H.S.H.
+// Code 7 is H·S·H.
 pub const FIRST: u8 = 1;
 // Code 7 is the rotation.
 pub const SECOND: u8 = 2;
