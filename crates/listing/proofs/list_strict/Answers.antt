@@ -1,0 +1,22 @@
+-- `listing::list_strict` meets its contract: the book refused in a single line, or the lines of all bodies.
+use native.Mathlib.Omega.{arith}
+use Rattle.book.proofs.Laws.Number.{contents-good}
+use Rattle.listing.proofs.Laws.Whole.{listed-strict, single-strict}
+use Rattle.listing.proofs.list_strict.Goals as goal
+
+pub returns-then-number-ne0 : goal.returns-then-number-ne0
+returns-then-number-ne0 c =
+    let t = c.test-number in
+    let l = c.refused_line in
+    single-strict c.args.book.now c.args.area.now l.new.area l.result t.result t.ensures (omega arith) c.if-number-ne0.true l.ensures
+
+pub list_bodies-requires : goal.list_bodies-requires
+list_bodies-requires c =
+    let t = c.test-number in
+    contents-good c.args.book.now t.result t.ensures c.if-number-ne0.false
+
+pub returns : goal.returns
+returns c =
+    let t = c.test-number in
+    let l = c.list_bodies in
+    listed-strict c.args.book.now c.args.area.now l.new.area l.result t.result t.ensures c.if-number-ne0.false l.ensures
