@@ -14,4 +14,3 @@ returns-then-refusal-ne0 c = called-refused _ _ _ _ _ c.read-r.result c.read-r.e
 pub put_back-requires : goal.put_back-requires
 put_back-requires c =
     (read-size _ c.read-r.result c.read-r.ensures c.if-refusal-ne0.false, λ z. (c.scale-c.ensures.done z).normal)
-
