@@ -10,6 +10,9 @@ ghost use Rattle.circuit_number.specs.Inner.Tested.{edition_number, tested_numbe
 
 use gates::Reading;
 
+// The fewest wires of a circuit.
+const LEAST_WIRES: u8 = 1;
+
 // Item `j` of the bytes, read on so many wires in a dialect, which is the edition of a circuit.
 fn item_at(dialect: u8, gates: &[u8], j: usize, width: u8) -> Reading
     requires { 3 * j + 3 ≤ length gates.now }
@@ -146,7 +149,7 @@ fn tested(dialect: u8, width: u8, input: u32, output: u32, gates: &[u8]) -> u8
     if exact::MOST_GATES < gates.len() / 3 {
         return exact::BAD_BODY;
     }
-    if width < 1 {
+    if width < LEAST_WIRES {
         return exact::BAD_WIRE;
     }
     if exact::MOST_WIRES < width {

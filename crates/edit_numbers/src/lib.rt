@@ -81,7 +81,8 @@ pub fn addition(book: &[u8], room: usize, kind: u8, width: u8, body: &[u8]) -> u
     if own != 0 {
         return own;
     }
-    if contents::count(book) >= exact::MOST_BODIES {
+    let full = contents::count(book) >= exact::MOST_BODIES;
+    if full {
         return exact::BAD_HEADER;
     }
     room_number(room, book.len() + 8, body.len())

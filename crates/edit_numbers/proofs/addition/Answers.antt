@@ -29,9 +29,9 @@ returns-then-own-ne0 c =
     refl a.kind a.width a.body.now m.result refl (λ o. o)
     (subst (λ (v : ℕ). NewNumber v a.kind a.width a.body.now m.result) d.ensures m.ensures) c.if-own-ne0.true
 
-pub returns-then-count-ge-MOST_BODIES : goal.returns-then-count-ge-MOST_BODIES
-returns-then-count-ge-MOST_BODIES c =
-    let n = c.count in
+pub returns-then-full : goal.returns-then-full
+returns-then-full c =
+    let n = c.count-full in
     let m = c.new_number-own in
     let d = c.edition in
     let t = c.test-whole in
@@ -40,7 +40,7 @@ returns-then-count-ge-MOST_BODIES c =
     let N = subst (λ (v : ℕ). NewNumber v a.kind a.width a.body.now m.result) d.ensures m.ensures in
     let g = new-good (edition_of bs) a.kind a.width a.body.now m.result N c.if-own-ne0.false in
     seventeenth-refused bs a.room (add a.kind a.width a.body.now) t.result t.ensures c.if-whole-ne0.false refl
-    (ap not g) m.result (N.own g) c.if-own-ne0.false (lt-ltb 15 (count_of bs) (omega (arith, n.ensures, c.if-count-ge-MOST_BODIES.true)))
+    (ap not g) m.result (N.own g) c.if-own-ne0.false (lt-ltb 15 (count_of bs) (omega (arith, n.ensures, c.if-full.true)))
 
 pub room_number-requires : goal.room_number-requires
 room_number-requires c =
@@ -51,7 +51,7 @@ room_number-requires c =
 
 pub returns : goal.returns
 returns c =
-    let n = c.count in
+    let n = c.count-full in
     let m = c.new_number-own in
     let d = c.edition in
     let t = c.test-whole in
@@ -62,5 +62,5 @@ returns c =
     let N = subst (λ (v : ℕ). NewNumber v a.kind a.width a.body.now m.result) d.ensures m.ensures in
     let g = new-good (edition_of bs) a.kind a.width a.body.now m.result N c.if-own-ne0.false in
     room-tested bs a.room (add a.kind a.width a.body.now) t.result t.ensures tz refl
-    (ap not g) m.result (N.own g) c.if-own-ne0.false (le-ltb 15 (count_of bs) (omega (arith, n.ensures, c.if-count-ge-MOST_BODIES.false)))
+    (ap not g) m.result (N.own g) c.if-own-ne0.false (le-ltb 15 (count_of bs) (omega (arith, n.ensures, c.if-full.false)))
     c.room_number.result _ c.room_number.ensures (size-added bs z a.kind a.width a.body.now)
