@@ -1,3 +1,4 @@
+pub mod Any
 pub mod Fault
 pub mod Fine
 pub mod Out

@@ -8,11 +8,7 @@ ghost use Rattle.body_bytes.specs.Body.{signed16, power_of, turn_of, row_of, tie
 fn signed(n: u16) -> i32
     ensures { result ≡ signed16 n }
 {
-    if n < 32768 {
-        n as i32
-    } else {
-        (n as i32) - 65536
-    }
+    i32::from(n.cast_signed())
 }
 
 // The power.

@@ -7,26 +7,21 @@ ghost use Rattle.contents.specs.Contents.{any_below};
 ghost use Rattle.body_bytes.specs.Body.{tie_count, size_fault, head_fault, turn_fault, row_fault, tie_fault, body_fault};
 
 // Whether a power is below −2,000 or above 2,000.
-fn power_out(s: i32) -> bool
+pub fn power_out(s: i32) -> bool
     ensures { result ≡ outside s }
 {
-    if s < exact::LEAST_POWER {
-        return true;
-    }
-    s > exact::MOST_POWER
+    s < exact::LEAST_POWER || s > exact::MOST_POWER
 }
 
 // Whether a mask has a bit at or above the width.
-fn mask_out(m: u64, width: u8) -> bool
+pub fn mask_out(m: u64, width: u8) -> bool
     ensures { result ≡ leb (2 ^ width) m }
 {
-    if width < 64 {
-        return m >> width > 0;
-    }
-    false
+    width < 64 && m >> width > 0
 }
 
 // Whether the width, the length or the tie count is refused.
+#[tactic(auto, unfolding(body_bytes::specs::Body::size_fault))]
 fn size_fault(bs: &[u8], width: u8) -> bool
     ensures { result ≡ size_fault width bs.now }
 {
@@ -38,93 +33,53 @@ fn size_fault(bs: &[u8], width: u8) -> bool
         return true;
     }
     let k = body_bytes::count_of(bs, width);
-    if k > width {
-        return true;
-    }
-    bs.len() != least + 9 * (k as usize)
+    k > width || bs.len() != least + 9 * (k as usize)
 }
 
 // Whether the zero mark, the phase or the power is out of range.
 fn head_fault(bs: &[u8]) -> bool
     ensures { result ≡ head_fault bs.now }
 {
-    if fields::read_u8(bs, 0) > 1 {
-        return true;
-    }
-    if fields::read_u8(bs, 1) > 7 {
-        return true;
-    }
-    power_out(body_bytes::power_of(bs))
+    fields::read_u8(bs, 0) > 1 || fields::read_u8(bs, 1) > 7 || power_out(body_bytes::power_of(bs))
 }
 
 // Whether some turn is out of range.
 fn turn_fault(bs: &[u8], width: u8) -> bool
     ensures { result ≡ any_below width (turn_fault bs.now) }
 {
-    let mut v: u8 = 0;
-    while v < width {
-        if body_bytes::turn_of(bs, v) > 3 {
-            return true;
-        }
-        v += 1;
-    }
-    false
+    (0..width).any(|v| body_bytes::turn_of(bs, v) > 3)
 }
 
 // Whether some row has a bit at or above the width.
 fn row_fault(bs: &[u8], width: u8) -> bool
     ensures { result ≡ any_below width (row_fault width bs.now) }
 {
-    let mut v: u8 = 0;
-    while v < width {
-        if mask_out(body_bytes::row_of(bs, width, v), width) {
-            return true;
-        }
-        v += 1;
-    }
-    false
+    (0..width).any(|v| mask_out(body_bytes::row_of(bs, width, v), width))
 }
 
 // Whether the mask or the r of tie j is out of range.
+#[tactic(auto, unfolding(body_bytes::specs::Body::tie_fault))]
 fn tie_fault(bs: &[u8], width: u8, j: u8) -> bool
     ensures { result ≡ tie_fault width bs.now j }
 {
-    if mask_out(body_bytes::mask_of(bs, width, j), width) {
-        return true;
-    }
-    body_bytes::side_of(bs, width, j) > 1
+    mask_out(body_bytes::mask_of(bs, width, j), width) || body_bytes::side_of(bs, width, j) > 1
 }
 
 // Whether some tie is out of range.
 fn ties_fault(bs: &[u8], width: u8) -> bool
     ensures { result ≡ any_below (tie_count width bs.now) (tie_fault width bs.now) }
 {
-    let k = body_bytes::count_of(bs, width);
-    let mut j: u8 = 0;
-    while j < k {
-        if tie_fault(bs, width, j) {
-            return true;
-        }
-        j += 1;
-    }
-    false
+    (0..body_bytes::count_of(bs, width)).any(|j| tie_fault(bs, width, j))
 }
 
 // Whether a body of this width is refused by 11.
+#[tactic(auto, unfolding(body_bytes::specs::Body::body_fault))]
 pub fn fault(bs: &[u8], width: u8) -> bool
     ensures { result ≡ body_fault width bs.now }
 {
-    if size_fault(bs, width) {
-        return true;
-    }
-    if head_fault(bs) {
-        return true;
-    }
-    if turn_fault(bs, width) {
-        return true;
-    }
-    if row_fault(bs, width) {
-        return true;
-    }
-    ties_fault(bs, width)
+    size_fault(bs, width)
+        || head_fault(bs)
+        || turn_fault(bs, width)
+        || row_fault(bs, width)
+        || ties_fault(bs, width)
 }

@@ -1,5 +1,5 @@
 -- The fields of a table's body as bytes, where its live slots are the lowest.
-use Rattle.std.specs.Prelude.{Bool, cond, List, [], ◌∷◌, ◌++◌, ℕ, zero, suc, ◌+◌, ◌-◌, ℤ, pos, negsuc}
+use Rattle.std.specs.Prelude.{Bool, cond, List, [], ◌∷◌, ◌++◌, ℕ, zero, suc, ◌-◌, ℤ, pos, negsuc}
 use Rattle.fields.specs.Bytes.{le}
 
 -- f 0, behind it f 1, .., behind it f (n − 1)

@@ -18,7 +18,7 @@ use ties::{Tie, Ties};
 fn mark_byte(zero: bool) -> u8
     ensures { result ≡ mark zero }
 {
-    if zero { 1 } else { 0 }
+    u8::from(zero)
 }
 
 // A power in 16 bits, two's complement.
@@ -26,7 +26,7 @@ fn signed_bits(s: i32) -> u16
     requires { InRange s }
     ensures { result ≡ of_signed16 s }
 {
-    ((s + 65536) as u32 % 65536) as u16
+    (s as i16).cast_unsigned()
 }
 
 // The zero mark, the phase and the power at the front of the part.
@@ -44,11 +44,9 @@ pub fn write_turns(part: &mut [u8], f: Form, n: usize)
     requires { n ≤ length part.old }
     ensures { part.new ≡ front part.old (joined n (λ i. turn_at f i ∷ [])) }
 {
-    let mut i = 0usize;
-    while i < n {
+    for i in 0..n {
         let a = f.turn_at(Slot(i));
         fields::write_u8(&mut part[i..], a.0);
-        i += 1;
     }
 }
 
@@ -57,12 +55,10 @@ pub fn write_rows(part: &mut [u8], f: Form, n: usize)
     requires { (n ≤ 64) × (8 * n ≤ length part.old) }
     ensures { part.new ≡ front part.old (joined n (λ i. le 8 (row_at f i))) }
 {
-    let mut i = 0usize;
-    while i < n {
+    for i in 0..n {
         let at = 8 * i;
         let b = f.row_at(Slot(i));
         fields::write_u64(&mut part[at..], b);
-        i += 1;
     }
 }
 
@@ -80,12 +76,10 @@ fn write_ties(part: &mut [u8], t: Ties, k: usize)
     requires { (k ≤ 64) × (9 * k ≤ length part.old) }
     ensures { part.new ≡ front part.old (joined k (λ j. tie_bytes (mask_at t j) (side_at t j))) }
 {
-    let mut j = 0usize;
-    while j < k {
+    for j in 0..k {
         let at = 9 * j;
         let a = t.tie_at(j);
         write_tie(&mut part[at..], a);
-        j += 1;
     }
 }
 

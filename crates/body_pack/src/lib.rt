@@ -10,20 +10,18 @@ use form::Form;
 use state::State;
 use ties::Ties;
 
-// Live slot `i` of a mask, counted from 0 in rising order, and 64 where there is none.
+// Live slot `i` of a mask, counted from 0 in rising order, and where there is none the place 64, at which every form holds 0, as `packed_form` says it.
 fn slot_at(live: u64, i: usize) -> usize
     ensures { result ≡ slot_at live i }
 {
     let mut below: usize = 0;
-    let mut v: usize = 0;
-    while v < 64 {
+    for v in 0..64usize {
         if bits::digit(live, v) == 1 {
             if below == i {
                 return v;
             }
             below += 1;
         }
-        v += 1;
     }
     64
 }
@@ -34,12 +32,10 @@ fn packed_mask(live: u64, m: u64) -> u64
 {
     let mut r: u64 = 0;
     let mut i: usize = 0;
-    let mut v: usize = 0;
-    while v < 64 {
+    for v in 0..64usize {
         let on = bits::digit(live, v);
         r += bits::only(on, bits::only(bits::digit(m, v), bits::single(i)));
         i += on as usize;
-        v += 1;
     }
     r
 }
@@ -48,30 +44,20 @@ fn packed_mask(live: u64, m: u64) -> u64
 fn pack_form(f: Form, live: u64) -> Form
     ensures { result ≡ packed_form live f }
 {
-    let mut r = f;
-    let mut j: usize = 0;
-    while j < 64 {
-        let v = Slot(slot_at(live, j));
-        let row = f.row_at(v);
-        r.turns[j] = f.turn_at(v);
-        r.signs[j] = packed_mask(live, row);
-        j += 1;
+    Form {
+        phase: f.phase,
+        turns: std::array::from_fn(|j| f.turn_at(Slot(slot_at(live, j)))),
+        signs: std::array::from_fn(|j| packed_mask(live, f.row_at(Slot(slot_at(live, j))))),
     }
-    r
 }
 
 // Each tie's set packed.
-fn pack_ties(t: Ties, live: u64) -> Ties
+fn pack_ties(mut t: Ties, live: u64) -> Ties
     ensures { result ≡ packed_ties live t }
 {
-    let mut r = t;
-    let mut j: usize = 0;
-    while j < 64 {
-        let m = t.masks[j];
-        r.masks[j] = packed_mask(live, m);
-        j += 1;
-    }
-    r
+    let masks = std::array::from_fn(|j| packed_mask(live, t.tie_at(j).mask));
+    t.masks = masks;
+    t
 }
 
 // The table with its live bits renumbered in rising order: its live slots are the lowest.

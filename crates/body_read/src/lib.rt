@@ -2,9 +2,9 @@
 #![tactic(auto)]
 
 ghost use Rattle.std.specs.Prelude.{false, ◌≡◌, ◌≤◌, ◌-◌, ◌^◌};
-ghost use Rattle.form.specs.Form.{quarter};
-ghost use Rattle.body_bytes.specs.Body.{row_of, tie_count, mask_of, side_of, body_fault};
-ghost use Rattle.body_read.specs.Table.{quarter_of, padded, form_of, ties_of, table_of};
+ghost use Rattle.body_bytes.specs.Body.{tie_count, body_fault};
+ghost use Rattle.body_read.specs.Inner.Padded.{Padded};
+ghost use Rattle.body_read.specs.Table.{quarter_of, form_of, ties_of, table_of};
 ghost use Rattle.body_read.specs.Read.{Reads};
 
 use exact::{Eighth, Power, Quarter};
@@ -12,7 +12,7 @@ use form::Form;
 use state::State;
 use ties::Ties;
 
-// What reading a body answers: a refusal's number or 0, and the table; where refused, the fresh one.
+// What reading a body answers: a refusal's number or 0, and the table; no Result, since the documents promise the fresh table where refused (`fault` and `broken` of `Reads`).
 #[derive(Clone, Copy)]
 pub struct Reading {
     pub refusal: u8,
@@ -27,34 +27,12 @@ fn quarter_of(bs: &[u8], v: u8) -> Quarter
     Quarter(body_bytes::turn_of(bs, v))
 }
 
-// The turns of the live slots.
-fn turns_of(bs: &[u8], width: u8) -> [Quarter; 64]
-    requires { width ≤ 64 }
-    ensures { result ≡ padded (quarter 0) width (quarter_of bs.now) }
+// 64 places: what a function says of the first n, and a value that fills the rest.
+fn padded<T: Copy, F: Fn(u8) -> T>(rest: T, n: u8, f: F) -> [T; 64]
+    requires { F.IsAlwaysCallable f }
+    ensures { Padded (λ v r. F.post f v r) rest n result }
 {
-    let mut turns = [Quarter(0); 64];
-    let mut v: u8 = 0;
-    while v < width {
-        let i = v as usize;
-        turns[i] = quarter_of(bs, v);
-        v += 1;
-    }
-    turns
-}
-
-// The rows of the live slots.
-fn signs_of(bs: &[u8], width: u8) -> [u64; 64]
-    requires { width ≤ 64 }
-    ensures { result ≡ padded 0 width (row_of width bs.now) }
-{
-    let mut signs = [0u64; 64];
-    let mut v: u8 = 0;
-    while v < width {
-        let i = v as usize;
-        signs[i] = body_bytes::row_of(bs, width, v);
-        v += 1;
-    }
-    signs
+    std::array::from_fn(|v| if v < n as usize { f(v as u8) } else { rest })
 }
 
 // The form.
@@ -64,41 +42,9 @@ fn form_of(bs: &[u8], width: u8) -> Form
 {
     Form {
         phase: Eighth(fields::read_u8(bs, 1)),
-        turns: turns_of(bs, width),
-        signs: signs_of(bs, width),
+        turns: padded(Quarter(0), width, |v| quarter_of(bs, v)),
+        signs: padded(0, width, |v| body_bytes::row_of(bs, width, v)),
     }
-}
-
-// The masks of the ties.
-fn masks_of(bs: &[u8], width: u8) -> [u64; 64]
-    requires { tie_count width bs.now ≤ 64 }
-    ensures { result ≡ padded 0 (tie_count width bs.now) (mask_of width bs.now) }
-{
-    let k = body_bytes::count_of(bs, width);
-    let mut masks = [0u64; 64];
-    let mut j: u8 = 0;
-    while j < k {
-        let i = j as usize;
-        masks[i] = body_bytes::mask_of(bs, width, j);
-        j += 1;
-    }
-    masks
-}
-
-// What each tie's sum is.
-fn sides_of(bs: &[u8], width: u8) -> [u8; 64]
-    requires { tie_count width bs.now ≤ 64 }
-    ensures { result ≡ padded 0 (tie_count width bs.now) (side_of width bs.now) }
-{
-    let k = body_bytes::count_of(bs, width);
-    let mut sides = [0u8; 64];
-    let mut j: u8 = 0;
-    while j < k {
-        let i = j as usize;
-        sides[i] = body_bytes::side_of(bs, width, j);
-        j += 1;
-    }
-    sides
 }
 
 // The ties.
@@ -106,10 +52,11 @@ fn ties_of(bs: &[u8], width: u8) -> Ties
     requires { tie_count width bs.now ≤ 64 }
     ensures { result ≡ ties_of width bs.now }
 {
+    let k = body_bytes::count_of(bs, width);
     Ties {
-        count: body_bytes::count_of(bs, width) as usize,
-        masks: masks_of(bs, width),
-        sides: sides_of(bs, width),
+        count: k as usize,
+        masks: padded(0, k, |j| body_bytes::mask_of(bs, width, j)),
+        sides: padded(0, k, |j| body_bytes::side_of(bs, width, j)),
     }
 }
 

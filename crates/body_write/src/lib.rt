@@ -9,7 +9,7 @@ ghost use Rattle.body_write.specs.Write.{BodyWritten};
 
 use state::State;
 
-// What a writer answers: a refusal's number or 0, and the bytes written.
+// What a writer answers: a refusal's number or 0, and the bytes written; no Result, since the documents promise 0 bytes where refused (`nothing` of `BodyWritten`).
 #[derive(Clone, Copy)]
 pub struct Written {
     pub refusal: u8,
@@ -45,13 +45,7 @@ pub fn write(t: State, area: &mut [u8], start: usize) -> Written
         };
     }
     let size = body_size(t);
-    if area.len() < start {
-        return Written {
-            refusal: exact::AREA_SHORT,
-            bytes: 0,
-        };
-    }
-    if area.len() - start < size {
+    if area.len() < start || area.len() - start < size {
         return Written {
             refusal: exact::AREA_SHORT,
             bytes: 0,

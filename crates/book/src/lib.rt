@@ -10,17 +10,9 @@ fn fault_at(book: &[u8], j: usize) -> u8
     requires { (contents_number book.now ≡ 0) × (j < count_of book.now) }
     ensures { BodyNumber book.now j result }
 {
-    let edition = contents::edition(book);
     let e = contents::entry_at(book, j);
-    let from = e.start;
-    let to = from + e.length;
-    if e.kind == 1 {
-        return book_bodies::circuit_fault(edition, &book[from..to], e.width);
-    }
-    if e.kind == 3 {
-        return book_bodies::record_fault(&book[from..to], e.width);
-    }
-    book_bodies::table_fault(&book[from..to], e.width)
+    let part = &book[e.start..e.start + e.length];
+    book_bodies::own_fault(contents::edition(book), e.kind, part, e.width)
 }
 
 // The number that refuses a book: header, contents, then bodies in order; 0 where it is good.
@@ -32,15 +24,11 @@ pub fn test(book: &[u8]) -> u8
         return front;
     }
     let n = contents::count(book);
-    // how many bodies are left to test
-    let mut left = n;
-    while left > 0 {
-        let j = n - left;
+    for j in 0..n {
         let k = fault_at(book, j);
         if k != 0 {
             return k;
         }
-        left -= 1;
     }
     0
 }

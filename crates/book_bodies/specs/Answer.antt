@@ -1,11 +1,9 @@
 -- What a body answers on its own: a refusal's number, a circuit's amount, a record's chance or a table.
-use Rattle.std.specs.Prelude.{true, false, List, ◌≢◌, ◌≡◌, ℕ}
+use Rattle.std.specs.Prelude.{true, false, List, ◌≢◌, ◌≡◌, ℕ, Ok}
 use Rattle.exact.specs.Amount.{none}
 use Rattle.exact.specs.declared.Amount.{Amount}
-use Rattle.exact.specs.declared.Answer.TheVariants.{Is}
 use Rattle.exact.specs.declared.Chance.{Chance}
 use Rattle.exact.specs.declared.Chance.TheVariants.{Never}
-use Rattle.exact.specs.declared.Told.TheVariants.{Is as IsChance}
 use Rattle.exact.specs.Refusal.{accepted, bad_body, not_normal}
 use Rattle.state.specs.Entry.{fresh_table}
 use Rattle.state.specs.Normal.{Normal}
@@ -62,7 +60,7 @@ table_body t = body Whole t
 pub record CircuitAnswer (e n : ℕ) (bs : List ℕ) (r : Body) : Type 0 where
   pub refused : circuit_body_number e n bs ≢ accepted → r ≡ refusal (circuit_body_number e n bs)
   pub given : circuit_body_number e n bs ≡ accepted → r ≡ circuit_body (said_amount r.said)
-  pub value : circuit_body_number e n bs ≡ accepted → Amplitude e n (input_of bs) (output_of bs) (gates_of bs) (Is (said_amount r.said))
+  pub value : circuit_body_number e n bs ≡ accepted → Amplitude e n (input_of bs) (output_of bs) (gates_of bs) (Ok (said_amount r.said))
 
 -- what a table's body of width n answers
 pub record TableAnswer (n : ℕ) (bs : List ℕ) (r : Body) : Type 0 where
@@ -75,7 +73,7 @@ pub record TableAnswer (n : ℕ) (bs : List ℕ) (r : Body) : Type 0 where
 pub record RecordAnswer (n : ℕ) (bs : List ℕ) (r : Body) : Type 0 where
   pub refused : record_body_number n bs ≢ accepted → r ≡ refusal (record_body_number n bs)
   pub given : record_body_number n bs ≡ accepted → r ≡ record_body (said_chance r.said)
-  pub value : record_body_number n bs ≡ accepted → Chanced n (input_of bs) (record_gates bs) (IsChance (said_chance r.said))
+  pub value : record_body_number n bs ≡ accepted → Chanced n (input_of bs) (record_gates bs) (Ok (said_chance r.said))
 
 -- "kind (1 circuit, 2 table)"; "Body kind 3 in edition 2"
 pub record BodyAnswer (e kind n : ℕ) (bs : List ℕ) (r : Body) : Type 0 where

@@ -4,9 +4,10 @@
 ghost use Rattle.std.specs.Prelude.{◌≡◌};
 ghost use Rattle.book_bodies.specs.Number.{circuit_body_number, record_body_number, TableNumber, OwnNumber};
 ghost use Rattle.book_bodies.specs.Inner.Said.{said_of, said_told};
-ghost use Rattle.book_bodies.specs.Answer.{refusal, CircuitAnswer, RecordAnswer, TableAnswer};
+ghost use Rattle.book_bodies.specs.Answer.{refusal, CircuitAnswer, RecordAnswer, TableAnswer, BodyAnswer};
 
-use exact::{Amount, Answer, Chance, Told};
+use contents::Kind;
+use exact::{Amount, Chance, Refusal};
 use state::State;
 
 // What reading a body says: a refusal's number, a circuit's amplitude, a record's chance, or that the table stands beside it.
@@ -26,22 +27,22 @@ pub struct Body {
 }
 
 // A circuit's answer, as it is said of a body.
-fn said_of(a: Answer) -> Said
+fn said_of(a: Result<Amount, Refusal>) -> Said
     ensures { result ≡ said_of a }
 {
     match a {
-        Answer::Refused(k) => Said::Refused(k),
-        Answer::Is(m) => Said::Circuit(m),
+        Ok(m) => Said::Circuit(m),
+        Err(r) => Said::Refused(u8::from(r)),
     }
 }
 
 // A record's answer, as it is said of a body.
-fn said_told(a: Told) -> Said
+fn said_told(a: Result<Chance, Refusal>) -> Said
     ensures { result ≡ said_told a }
 {
     match a {
-        Told::Refused(k) => Said::Refused(k),
-        Told::Is(c) => Said::Record(c),
+        Ok(c) => Said::Record(c),
+        Err(r) => Said::Refused(u8::from(r)),
     }
 }
 
@@ -93,15 +94,22 @@ pub fn table_body(part: &[u8], width: u8) -> Body
     let r = body_read::read(part, width);
     let fault = r.refusal;
     let t = r.table;
-    if fault != 0 {
-        return Body {
-            said: Said::Refused(fault),
-            table: t,
-        };
-    }
-    Body {
-        said: Said::Whole,
-        table: t,
+    let said = if fault == 0 {
+        Said::Whole
+    } else {
+        Said::Refused(fault)
+    };
+    Body { said, table: t }
+}
+
+// What a body of this kind and width answers in a book of this edition.
+pub fn own_body(edition: u8, kind: u8, part: &[u8], width: u8) -> Body
+    ensures { BodyAnswer edition kind width part.now result }
+{
+    match Kind::try_from(kind) {
+        Ok(Kind::Circuit) => circuit_body(edition, part, width),
+        Ok(Kind::Record) => record_body(part, width),
+        Ok(Kind::Table) | Err(_) => table_body(part, width),
     }
 }
 
@@ -114,18 +122,18 @@ pub fn circuit_fault(edition: u8, part: &[u8], width: u8) -> u8
     }
     let input = fields::read_u32(part, 0);
     let output = fields::read_u32(part, 4);
-    circuit::number(edition, width, input, output, &part[8..])
+    exact::number_of(&circuit::test(edition, width, input, output, &part[8..]))
 }
 
 // The number that refuses a record's body of this width, 0 for none: its chance is not computed.
 pub fn record_fault(part: &[u8], width: u8) -> u8
     ensures { result ≡ record_body_number width part.now }
 {
-    if 4 <= part.len() {
-        let input = fields::read_u32(part, 0);
-        return record::number(width, input, &part[4..]);
+    if part.len() < 4 {
+        return exact::BAD_BODY;
     }
-    exact::BAD_BODY
+    let input = fields::read_u32(part, 0);
+    exact::number_of(&record::test(width, input, &part[4..]))
 }
 
 // The number that refuses a table's body of this width, 0 for none.
@@ -140,11 +148,9 @@ pub fn table_fault(part: &[u8], width: u8) -> u8
 pub fn own_fault(edition: u8, kind: u8, part: &[u8], width: u8) -> u8
     ensures { OwnNumber edition kind width part.now result }
 {
-    if kind == 1 {
-        return circuit_fault(edition, part, width);
+    match Kind::try_from(kind) {
+        Ok(Kind::Circuit) => circuit_fault(edition, part, width),
+        Ok(Kind::Record) => record_fault(part, width),
+        Ok(Kind::Table) | Err(_) => table_fault(part, width),
     }
-    if kind == 3 {
-        return record_fault(part, width);
-    }
-    table_fault(part, width)
 }

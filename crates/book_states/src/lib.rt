@@ -14,17 +14,9 @@ fn body_in(book: &[u8], j: usize) -> Body
     requires { (contents_number book.now ≡ 0) × (j < count_of book.now) }
     ensures { BodyAnswer (edition_of book.now) (kind_of book.now j) (width_of book.now j) (bytes_of book.now j) result }
 {
-    let edition = contents::edition(book);
     let e = contents::entry_at(book, j);
-    let from = e.start;
-    let to = from + e.length;
-    if e.kind == 1 {
-        return book_bodies::circuit_body(edition, &book[from..to], e.width);
-    }
-    if e.kind == 3 {
-        return book_bodies::record_body(&book[from..to], e.width);
-    }
-    book_bodies::table_body(&book[from..to], e.width)
+    let part = &book[e.start..e.start + e.length];
+    book_bodies::own_body(contents::edition(book), e.kind, part, e.width)
 }
 
 // Body j of a book, whatever the other bodies are: refused by header or contents, then by 14 where there is no such body, then by its own number.

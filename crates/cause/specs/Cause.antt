@@ -1,13 +1,12 @@
 -- The causes of the numbers of refusal, each with its number, and the first fault of a list of tests.
-use Rattle.std.specs.Prelude.{Bool, cond, List, [], ◌∷◌, ℕ, zero, suc, eqb}
+use Rattle.std.specs.Prelude.{Bool, cond, List, [], ◌∷◌, ℕ, zero, suc, Result, Ok, Err}
 use Rattle.exact.specs.Refusal.{accepted, twice, out_of_range, bad_wire, unknown_code, bad_string, bad_header, bad_contents, bad_body, not_normal, no_body, bad_block}
 pub use Rattle.cause.specs.declared.Cause.{Cause}
-pub use Rattle.cause.specs.declared.Cause.TheVariants.{Sound, Short, Long, Letters, Edition, Count, Contents, Kind, Start, End, LastEnd, NoBody, Strings, Threes, Many, Wires, Input, Output, Code, Wire, SecondWire, SameWire, SecondByte, Outcome, NoCount, Stray, Deep, Unopened, Empty, Unclosed, Expansion, TableWidth, Length, ManyTies, ZeroMark, Phase, PowerOut, Turn, Row, Mask, Side, NotNormal}
+pub use Rattle.cause.specs.declared.Cause.TheVariants.{Short, Long, Letters, Edition, Count, Contents, Kind, Start, End, LastEnd, NoBody, Strings, Threes, Many, Wires, Input, Output, Code, Wire, SecondWire, SameWire, SecondByte, Outcome, NoCount, Stray, Deep, Unopened, Empty, Unclosed, Expansion, TableWidth, Length, ManyTies, ZeroMark, Phase, PowerOut, Turn, Row, Mask, Side, NotNormal}
 pub use Rattle.cause.specs.declared.Found.{Found}
 
 -- ---- the number of each cause
 unfoldable pub number_of : Cause → ℕ
-number_of Sound = accepted
 -- 9: "book shorter than 4"
 number_of Short = bad_header
 -- 9: "longer than 60,000 bytes"
@@ -85,43 +84,49 @@ number_of Side = bad_body
 -- 12: "a table handed in or read is not normal"
 number_of NotNormal = not_normal
 
--- ---- a fault: the gate or field at fault, as its item and its byte
-abbrev pub found : Cause → ℕ → ℕ → Found
-found c i b = record { cause = c; item = i; byte = b }
+-- ---- no fault, or one
+abbrev pub Finding : Type 0
+Finding = Result Unit Found
+
+-- a fault: the gate or field at fault, as its item and its byte
+abbrev pub found : Cause → ℕ → ℕ → Finding
+found c i b = Err (record { cause = c; item = i; byte = b })
 
 -- no fault
-abbrev pub sound : Found
-sound = found Sound 0 0
+abbrev pub sound : Finding
+sound = Ok tt
 
 -- its number, 0 where there is none
-abbrev pub found_number : Found → ℕ
-found_number f = number_of f.cause
+abbrev pub found_number : Finding → ℕ
+found_number (Ok u) = accepted
+found_number (Err f) = number_of f.cause
 
 -- ---- the first fault
 -- a test and the fault that it finds
 pub record Look : Type 0 where
   pub when : Bool
-  pub finds : Found
+  pub finds : Finding
 
 infix 71 ◌finds◌
-abbrev pub ◌finds◌ : Bool → Found → Look
+abbrev pub ◌finds◌ : Bool → Finding → Look
 b finds f = record { when = b; finds = f }
 
 -- what the first test that holds finds: an order of refusals is a list of tests
-unfoldable pub first_found : List Look → Found
+unfoldable pub first_found : List Look → Finding
 first_found [] = sound
 first_found (t ∷ ts) = cond t.when t.finds (first_found ts)
 
 -- the first of two, where it is a fault
-unfoldable pub or_else : Found → Found → Found
-or_else f g = cond (eqb (found_number f) accepted) g f
+unfoldable pub or_else : Finding → Finding → Finding
+or_else (Ok u) g = g
+or_else (Err e) g = Err e
 
 -- the first fault of n things, in order
-unfoldable pub first_below : ℕ → (ℕ → Found) → Found
+unfoldable pub first_below : ℕ → (ℕ → Finding) → Finding
 first_below zero f = sound
 first_below (suc n) f = or_else (first_below n f) (f n)
 
 -- the first fault of several, in their order
-unfoldable pub in_order : List Found → Found
+unfoldable pub in_order : List Finding → Finding
 in_order [] = sound
 in_order (f ∷ fs) = or_else f (in_order fs)

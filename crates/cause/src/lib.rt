@@ -2,139 +2,109 @@
 #![tactic(auto)]
 
 ghost use Rattle.std.specs.Prelude.{◌≡◌};
-ghost use Rattle.cause.specs.Cause.{number_of, found_number, found, sound as sound_of};
+ghost use Rattle.exact.specs.Code.{code_of};
+ghost use Rattle.cause.specs.Cause.{number_of, found};
 
-// The causes, in the order in which they are looked for in a book, a circuit or record, and a table; `Sound` is none.
-#[derive(Clone, Copy)]
+use exact::Refusal;
+
+// The causes, in the order in which they are looked for in a book, a circuit or record, and a table, each with its own number.
+#[derive(Clone, Copy, Debug, PartialEq, Eq)]
 pub enum Cause {
-    Sound,
-    Short,
-    Long,
-    Letters,
-    Edition,
-    Count,
-    Contents,
-    Kind,
-    Start,
-    End,
-    LastEnd,
-    NoBody,
-    Strings,
-    Threes,
-    Many,
-    Wires,
-    Input,
-    Output,
-    Code,
-    Wire,
-    SecondWire,
-    SameWire,
-    SecondByte,
-    Outcome,
-    NoCount,
-    Stray,
-    Deep,
-    Unopened,
-    Empty,
-    Unclosed,
-    Expansion,
-    TableWidth,
-    Length,
-    ManyTies,
-    ZeroMark,
-    Phase,
-    PowerOut,
-    Turn,
-    Row,
-    Mask,
-    Side,
-    NotNormal,
+    Short = 1,
+    Long = 2,
+    Letters = 3,
+    Edition = 4,
+    Count = 5,
+    Contents = 6,
+    Kind = 7,
+    Start = 8,
+    End = 9,
+    LastEnd = 10,
+    NoBody = 11,
+    Strings = 12,
+    Threes = 13,
+    Many = 14,
+    Wires = 15,
+    Input = 16,
+    Output = 17,
+    Code = 18,
+    Wire = 19,
+    SecondWire = 20,
+    SameWire = 21,
+    SecondByte = 22,
+    Outcome = 23,
+    NoCount = 24,
+    Stray = 25,
+    Deep = 26,
+    Unopened = 27,
+    Empty = 28,
+    Unclosed = 29,
+    Expansion = 30,
+    TableWidth = 31,
+    Length = 32,
+    ManyTies = 33,
+    ZeroMark = 34,
+    Phase = 35,
+    PowerOut = 36,
+    Turn = 37,
+    Row = 38,
+    Mask = 39,
+    Side = 40,
+    NotNormal = 41,
 }
 
 // A fault: its cause, the item at fault (the gate or mark, the slot or the tie, counted from 0; 0 where the cause is of none), and its byte, counted from the start of the book.
-#[derive(Clone, Copy)]
+#[derive(Clone, Copy, Debug, PartialEq, Eq)]
 pub struct Found {
     pub cause: Cause,
     pub item: usize,
     pub byte: usize,
 }
 
-// The number that a cause refuses by, 0 for none.
-pub fn number(c: Cause) -> u8
-    ensures { result ≡ number_of c }
-{
-    match c {
-        Cause::Sound => 0,
-        Cause::Short => exact::BAD_HEADER,
-        Cause::Long => exact::BAD_HEADER,
-        Cause::Letters => exact::BAD_HEADER,
-        Cause::Edition => exact::BAD_HEADER,
-        Cause::Count => exact::BAD_HEADER,
-        Cause::Contents => exact::BAD_CONTENTS,
-        Cause::Kind => exact::BAD_CONTENTS,
-        Cause::Start => exact::BAD_CONTENTS,
-        Cause::End => exact::BAD_CONTENTS,
-        Cause::LastEnd => exact::BAD_CONTENTS,
-        Cause::NoBody => exact::NO_BODY,
-        Cause::Strings => exact::BAD_BODY,
-        Cause::Threes => exact::BAD_BODY,
-        Cause::Many => exact::BAD_BODY,
-        Cause::Wires => exact::BAD_WIRE,
-        Cause::Input => exact::BAD_STRING,
-        Cause::Output => exact::BAD_STRING,
-        Cause::Code => exact::UNKNOWN_CODE,
-        Cause::Wire => exact::BAD_WIRE,
-        Cause::SecondWire => exact::BAD_WIRE,
-        Cause::SameWire => exact::TWICE,
-        Cause::SecondByte => exact::OUT_OF_RANGE,
-        Cause::Outcome => exact::OUT_OF_RANGE,
-        Cause::NoCount => exact::OUT_OF_RANGE,
-        Cause::Stray => exact::OUT_OF_RANGE,
-        Cause::Deep => exact::BAD_BLOCK,
-        Cause::Unopened => exact::BAD_BLOCK,
-        Cause::Empty => exact::BAD_BLOCK,
-        Cause::Unclosed => exact::BAD_BLOCK,
-        Cause::Expansion => exact::BAD_BLOCK,
-        Cause::TableWidth => exact::BAD_BODY,
-        Cause::Length => exact::BAD_BODY,
-        Cause::ManyTies => exact::BAD_BODY,
-        Cause::ZeroMark => exact::BAD_BODY,
-        Cause::Phase => exact::BAD_BODY,
-        Cause::PowerOut => exact::BAD_BODY,
-        Cause::Turn => exact::BAD_BODY,
-        Cause::Row => exact::BAD_BODY,
-        Cause::Mask => exact::BAD_BODY,
-        Cause::Side => exact::BAD_BODY,
-        Cause::NotNormal => exact::NOT_NORMAL,
+impl Cause {
+    // What a cause refuses by.
+    #[tactic(auto, unfolding(crate::specs::Cause::number_of))]
+    pub fn refusal(self) -> Refusal
+        ensures { code_of result ≡ number_of self }
+    {
+        match self {
+            Cause::Short | Cause::Long | Cause::Letters | Cause::Edition | Cause::Count => {
+                Refusal::BadHeader
+            }
+            Cause::Contents | Cause::Kind | Cause::Start | Cause::End | Cause::LastEnd => {
+                Refusal::BadContents
+            }
+            Cause::NoBody => Refusal::NoBody,
+            Cause::Wires | Cause::Wire | Cause::SecondWire => Refusal::BadWire,
+            Cause::Input | Cause::Output => Refusal::BadString,
+            Cause::Code => Refusal::UnknownCode,
+            Cause::SameWire => Refusal::Twice,
+            Cause::SecondByte | Cause::Outcome | Cause::NoCount | Cause::Stray => {
+                Refusal::OutOfRange
+            }
+            Cause::Deep | Cause::Unopened | Cause::Empty | Cause::Unclosed | Cause::Expansion =>
+                Refusal::BadBlock,
+            Cause::Strings
+            | Cause::Threes
+            | Cause::Many
+            | Cause::TableWidth
+            | Cause::Length
+            | Cause::ManyTies
+            | Cause::ZeroMark
+            | Cause::Phase
+            | Cause::PowerOut
+            | Cause::Turn
+            | Cause::Row
+            | Cause::Mask
+            | Cause::Side => Refusal::BadBody,
+            Cause::NotNormal => Refusal::NotNormal,
+        }
     }
-}
-
-// The number of a fault, 0 for none.
-pub fn refusal(f: Found) -> u8
-    ensures { result ≡ found_number f }
-{
-    let c = f.cause;
-    number(c)
 }
 
 // A fault of a cause, at an item and a byte.
-pub fn fault(cause: Cause, item: usize, byte: usize) -> Found
+pub fn fault(cause: Cause, item: usize, byte: usize) -> Result<(), Found>
     ensures { result ≡ found cause item byte }
 {
-    Found {
-        cause: cause,
-        item: item,
-        byte: byte,
-    }
-}
-
-// No fault.
-pub fn sound() -> Found
-    ensures { result ≡ sound_of }
-{
-    Found {
-        cause: Cause::Sound,
-        item: 0,
-        byte: 0,
-    }
+    Err(Found { cause, item, byte })
 }

@@ -17,16 +17,16 @@ pub struct Scan {
 }
 
 // The fault of item j as a mark.
-fn mark(code: u8, j: usize, at: usize, s: Scan) -> Found
+fn mark(code: u8, j: usize, at: usize, s: Scan) -> Result<(), Found>
     requires { (j ≤ 20000) × (at ≤ 60000) }
     ensures { result ≡ mark_found at code j s }
 {
     if code != 65 {
         if code != 64 {
-            return cause::sound();
+            return Ok(());
         }
         if s.more != 0 {
-            return cause::sound();
+            return Ok(());
         }
         return cause::fault(Cause::Deep, j, at + 3 * j);
     }
@@ -36,7 +36,7 @@ fn mark(code: u8, j: usize, at: usize, s: Scan) -> Found
     if s.fresh {
         return cause::fault(Cause::Empty, j, at + 3 * j);
     }
-    cause::sound()
+    Ok(())
 }
 
 // What is known behind item j, which is not at fault as a mark.
@@ -54,26 +54,22 @@ fn step(code: u8, j: usize, s: Scan) -> Scan
         }
         return Scan {
             more: s.more - 1,
-            outer: s.outer,
             fresh: true,
+            ..s
         };
     }
     if code == 65 {
         return Scan {
             more: s.more + 1,
-            outer: s.outer,
             fresh: false,
+            ..s
         };
     }
-    Scan {
-        more: s.more,
-        outer: s.outer,
-        fresh: false,
-    }
+    Scan { fresh: false, ..s }
 }
 
 // The first fault of the marks, and then of the expansion, of a body whose items start at a byte.
-pub fn first(items: &[u8], at: usize) -> Found
+pub fn first(items: &[u8], at: usize) -> Result<(), Found>
     requires { (item_count items.now ≤ 20000) × (at ≤ 60000) }
     ensures { result ≡ blocks_found at items.now }
 {
@@ -83,15 +79,10 @@ pub fn first(items: &[u8], at: usize) -> Found
         outer: 0,
         fresh: false,
     };
-    let mut j = 0usize;
-    while j < count {
+    for j in 0..count {
         let code = items[3 * j];
-        let f = mark(code, j, at, s);
-        if cause::refusal(f) != 0 {
-            return f;
-        }
+        mark(code, j, at, s)?;
         s = step(code, j, s);
-        j += 1;
     }
     if s.more != exact::MOST_DEEP {
         return cause::fault(Cause::Unclosed, s.outer, at + 3 * s.outer);
@@ -99,5 +90,5 @@ pub fn first(items: &[u8], at: usize) -> Found
     if blocks::number(items) != 0 {
         return cause::fault(Cause::Expansion, 0, at);
     }
-    cause::sound()
+    Ok(())
 }

@@ -7,32 +7,25 @@ ghost use Rattle.cause_book.specs.Why.{why_of, BodyFound, BookWhy, BodyWhy};
 
 use cause::{Cause, Found};
 
-// Why a book, or a body of it, is refused: the number, 0 for none; the body, 16 where the fault is of none; the item at fault, its byte in the book, and the cause.
-#[derive(Clone, Copy)]
+// Why a book, or a body of it, is refused: the body, where the fault is of one, and the fault.
+#[derive(Clone, Copy, Debug, PartialEq, Eq)]
 pub struct Reason {
-    pub number: u8,
-    pub body: usize,
-    pub item: usize,
-    pub byte: usize,
-    pub cause: Cause,
+    pub body: Option<usize>,
+    pub fault: Found,
 }
 
 // A fault of a body, or of none, as it is answered.
-fn told(body: usize, f: Found) -> Reason
+fn told(body: Option<usize>, f: Result<(), Found>) -> Result<(), Reason>
     ensures { result ≡ why_of body f }
 {
-    let c = f.cause;
-    Reason {
-        number: cause::number(c),
-        body: body,
-        item: f.item,
-        byte: f.byte,
-        cause: c,
+    match f {
+        Ok(()) => Ok(()),
+        Err(fault) => Err(Reason { body, fault }),
     }
 }
 
 // The first fault of body j of a book with good contents.
-fn body_at(book: &[u8], j: usize) -> Found
+fn body_at(book: &[u8], j: usize) -> Result<(), Found>
     requires { (contents_number book.now ≡ 0) × (j < count_of book.now) }
     ensures { BodyFound book.now j result }
 {
@@ -51,36 +44,23 @@ fn body_at(book: &[u8], j: usize) -> Found
 }
 
 // The first fault of a book: header, contents, then bodies in order.
-pub fn why(book: &[u8]) -> Reason
+pub fn why(book: &[u8]) -> Result<(), Reason>
     ensures { BookWhy book.now result }
 {
-    let front = cause_contents::first(book);
-    if cause::refusal(front) != 0 {
-        return told(exact::MOST_BODIES, front);
+    told(None, cause_contents::first(book))?;
+    for j in 0..contents::count(book) {
+        told(Some(j), body_at(book, j))?;
     }
-    let n = contents::count(book);
-    let mut j = 0usize;
-    while j < n {
-        let f = body_at(book, j);
-        if cause::refusal(f) != 0 {
-            return told(j, f);
-        }
-        j += 1;
-    }
-    told(exact::MOST_BODIES, cause::sound())
+    Ok(())
 }
 
 // The first fault of header and contents, or that there is no body j, or the first fault of body j, whatever the other bodies are.
-pub fn why_body(book: &[u8], j: usize) -> Reason
+pub fn why_body(book: &[u8], j: usize) -> Result<(), Reason>
     ensures { BodyWhy book.now j result }
 {
-    let front = cause_contents::first(book);
-    if cause::refusal(front) != 0 {
-        return told(exact::MOST_BODIES, front);
-    }
+    told(None, cause_contents::first(book))?;
     if j >= contents::count(book) {
-        return told(exact::MOST_BODIES, cause::fault(Cause::NoBody, 0, 3));
+        return told(None, cause::fault(Cause::NoBody, 0, 3));
     }
-    let f = body_at(book, j);
-    told(j, f)
+    told(Some(j), body_at(book, j))
 }

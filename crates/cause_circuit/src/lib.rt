@@ -15,7 +15,7 @@ fn head(
     from: usize,
     at: usize,
     listed: usize,
-) -> Found
+) -> Result<(), Found>
     requires { (length gates.now ≤ 60000) × (from ≤ 60000) × (at ≤ 60000) }
     ensures { result ≡ head_found from at listed width input output gates.now }
 {
@@ -38,7 +38,7 @@ fn head(
     if strings <= output as u64 {
         return cause::fault(Cause::Output, 0, from + 4);
     }
-    cause::sound()
+    Ok(())
 }
 
 // The first fault of what stands in a dialect: before the items, the items in order, their blocks.
@@ -51,23 +51,17 @@ fn tested(
     from: usize,
     at: usize,
     listed: usize,
-) -> Found
+) -> Result<(), Found>
     requires { (length gates.now ≤ 60000) × (from ≤ 60000) × (at ≤ 60000) }
     ensures { result ≡ tested_found from at listed dialect width input output gates.now }
 {
-    let before = head(width, input, output, gates, from, at, listed);
-    if cause::refusal(before) != 0 {
-        return before;
-    }
-    let item = cause_items::first(dialect, gates, width, at);
-    if cause::refusal(item) != 0 {
-        return item;
-    }
+    head(width, input, output, gates, from, at, listed)?;
+    cause_items::first(dialect, gates, width, at)?;
     cause_blocks::first(gates, at)
 }
 
 // The first fault of a circuit's body that starts at a byte of a book of an edition.
-pub fn circuit(edition: u8, part: &[u8], width: u8, from: usize, listed: usize) -> Found
+pub fn circuit(edition: u8, part: &[u8], width: u8, from: usize, listed: usize) -> Result<(), Found>
     requires { from + length part.now ≤ 60000 }
     ensures { result ≡ circuit_found from listed edition width part.now }
 {
@@ -89,7 +83,7 @@ pub fn circuit(edition: u8, part: &[u8], width: u8, from: usize, listed: usize) 
 }
 
 // The first fault of a record's body that starts at a byte of a book.
-pub fn record(part: &[u8], width: u8, from: usize, listed: usize) -> Found
+pub fn record(part: &[u8], width: u8, from: usize, listed: usize) -> Result<(), Found>
     requires { from + length part.now ≤ 60000 }
     ensures { result ≡ record_found from listed width part.now }
 {

@@ -8,7 +8,7 @@ use cause::{Cause, Found};
 use contents::Entry;
 
 // The first fault of the header.
-fn header(bs: &[u8]) -> Found
+fn header(bs: &[u8]) -> Result<(), Found>
     ensures { result ≡ header_found bs.now }
 {
     if bs.len() < 4 {
@@ -29,11 +29,11 @@ fn header(bs: &[u8]) -> Found
     if contents::count(bs) > exact::MOST_BODIES {
         return cause::fault(Cause::Count, 0, 3);
     }
-    cause::sound()
+    Ok(())
 }
 
 // The first fault of entry j, whose body is to start at a place of a book of an edition and so many bytes.
-fn entry(edition: u8, e: Entry, j: usize, from: usize, size: usize) -> Found
+fn entry(edition: u8, e: Entry, j: usize, from: usize, size: usize) -> Result<(), Found>
     requires { j ≤ 16 }
     ensures { result ≡ entry_found edition e j from size }
 {
@@ -49,17 +49,14 @@ fn entry(edition: u8, e: Entry, j: usize, from: usize, size: usize) -> Found
     if size - e.start < e.length {
         return cause::fault(Cause::End, j, 6 + 8 * j);
     }
-    cause::sound()
+    Ok(())
 }
 
 // The first fault of header and contents.
-pub fn first(bs: &[u8]) -> Found
+pub fn first(bs: &[u8]) -> Result<(), Found>
     ensures { result ≡ contents_found bs.now }
 {
-    let head = header(bs);
-    if cause::refusal(head) != 0 {
-        return head;
-    }
+    header(bs)?;
     let n = contents::count(bs);
     let behind = 4 + 8 * n;
     if bs.len() < behind {
@@ -67,18 +64,13 @@ pub fn first(bs: &[u8]) -> Found
     }
     let edition = contents::edition(bs);
     let mut at = behind;
-    let mut j = 0usize;
-    while j < n {
+    for j in 0..n {
         let e = contents::entry_at(bs, j);
-        let f = entry(edition, e, j, at, bs.len());
-        if cause::refusal(f) != 0 {
-            return f;
-        }
+        entry(edition, e, j, at, bs.len())?;
         at += e.length;
-        j += 1;
     }
     if at != bs.len() {
         return cause::fault(Cause::LastEnd, 0, at);
     }
-    cause::sound()
+    Ok(())
 }

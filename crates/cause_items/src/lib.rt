@@ -3,28 +3,13 @@
 
 ghost use Rattle.std.specs.Prelude.{◌≡◌, ◌+◌, ◌*◌, ◌≤◌, length};
 ghost use Rattle.blocks.specs.Expansion.{item_count};
-ghost use Rattle.gates.specs.Circuit.{number_of};
 ghost use Rattle.cause.specs.Cause.{first_below};
 ghost use Rattle.cause_items.specs.Items.{range_found, read_found, item_found};
 
 use cause::{Cause, Found};
-use gates::Reading;
-
-// The number of a reading, 0 where it is a gate, a mark or an element.
-fn number_of(g: Reading) -> u8
-    ensures { result ≡ number_of g }
-{
-    match g {
-        Reading::Refused(n) => n,
-        Reading::Is(_) => 0,
-        Reading::Opens(_) => 0,
-        Reading::Closes => 0,
-        Reading::Word(_, _) => 0,
-    }
-}
 
 // Why item j is refused by 3, by its code and its second byte.
-fn range(code: u8, second: u8, j: usize, byte: usize) -> Found
+fn range(code: u8, second: u8, j: usize, byte: usize) -> Result<(), Found>
     requires { byte ≤ 200000 }
     ensures { result ≡ range_found byte j code second }
 {
@@ -47,7 +32,15 @@ fn range(code: u8, second: u8, j: usize, byte: usize) -> Found
 }
 
 // Why item j is refused by a number, 0 for none: which of its bytes is at fault.
-fn refine(k: u8, code: u8, wire: u8, second: u8, width: u8, j: usize, byte: usize) -> Found
+fn refine(
+    k: u8,
+    code: u8,
+    wire: u8,
+    second: u8,
+    width: u8,
+    j: usize,
+    byte: usize,
+) -> Result<(), Found>
     requires { byte ≤ 200000 }
     ensures { result ≡ read_found byte j width k code wire second }
 {
@@ -66,34 +59,29 @@ fn refine(k: u8, code: u8, wire: u8, second: u8, width: u8, j: usize, byte: usiz
     if k == exact::OUT_OF_RANGE {
         return range(code, second, j, byte);
     }
-    cause::sound()
+    Ok(())
 }
 
 // The fault of item j, read on so many wires in a dialect, where the items start at a byte.
-fn item(dialect: u8, items: &[u8], j: usize, width: u8, at: usize) -> Found
+fn item(dialect: u8, items: &[u8], j: usize, width: u8, at: usize) -> Result<(), Found>
     requires { (3 * j + 3 ≤ length items.now) × (j ≤ 20000) × (at ≤ 60000) }
     ensures { result ≡ item_found at dialect width items.now j }
 {
     let code = items[3 * j];
     let wire = items[3 * j + 1];
     let second = items[3 * j + 2];
-    let k = number_of(gates::read(dialect, code, wire, second, width));
+    let k = gates::read(dialect, code, wire, second, width).number();
     refine(k, code, wire, second, width, j, at + 3 * j)
 }
 
 // The first item at fault.
-pub fn first(dialect: u8, items: &[u8], width: u8, at: usize) -> Found
+pub fn first(dialect: u8, items: &[u8], width: u8, at: usize) -> Result<(), Found>
     requires { (item_count items.now ≤ 20000) × (at ≤ 60000) }
     ensures { result ≡ first_below (item_count items.now) (item_found at dialect width items.now) }
 {
     let count = items.len() / 3;
-    let mut j = 0usize;
-    while j < count {
-        let f = item(dialect, items, j, width, at);
-        if cause::refusal(f) != 0 {
-            return f;
-        }
-        j += 1;
+    for j in 0..count {
+        item(dialect, items, j, width, at)?;
     }
-    cause::sound()
+    Ok(())
 }

@@ -6,11 +6,10 @@ use Rattle.state.specs.Normal.{Normal}
 use Rattle.body_bytes.specs.Body.{mark_of, phase_of, power_of, tie_count, mask_of, side_of, turn_fault, row_fault, body_fault}
 use Rattle.body_read.specs.Table.{table_of}
 use Rattle.cause.specs.declared.Cause.TheVariants.{TableWidth, Length, ManyTies, ZeroMark, Phase, PowerOut, Turn, Row, Mask, Side, NotNormal}
-use Rattle.cause.specs.declared.Found.{Found}
-use Rattle.cause.specs.Cause.{found, sound, found_number, ◌finds◌, first_found, first_below, in_order}
+use Rattle.cause.specs.Cause.{Finding, found, sound, found_number, ◌finds◌, first_found, first_below, in_order}
 
 -- "body length wrong, .. table width above 64, more ties than n": a wrong length is at the body's end, the width at its byte in the contents
-unfoldable pub size_found : ℕ → ℕ → ℕ → List ℕ → Found
+unfoldable pub size_found : ℕ → ℕ → ℕ → List ℕ → Finding
 size_found from wat n bs =
     first_found
     (ltb 64 n finds found TableWidth 0 wat
@@ -20,7 +19,7 @@ size_found from wat n bs =
     ∷ [])
 
 -- "a field out of range (s beyond ±2,000, zero mark .. above 1": "a phase c (0..7)"
-unfoldable pub head_found : ℕ → List ℕ → Found
+unfoldable pub head_found : ℕ → List ℕ → Finding
 head_found from bs =
     first_found
     (ltb 1 (mark_of bs) finds found ZeroMark 0 from
@@ -29,15 +28,15 @@ head_found from bs =
     ∷ [])
 
 -- "a turn a_v (0..3)"
-unfoldable pub turn_found : ℕ → List ℕ → ℕ → Found
+unfoldable pub turn_found : ℕ → List ℕ → ℕ → Finding
 turn_found from bs v = first_found (turn_fault bs v finds found Turn v (from + (4 + v)) ∷ [])
 
 -- "a row .. bit at or above n"
-unfoldable pub row_found : ℕ → ℕ → List ℕ → ℕ → Found
+unfoldable pub row_found : ℕ → ℕ → List ℕ → ℕ → Finding
 row_found from n bs v = first_found (row_fault n bs v finds found Row v (from + (4 + n + 8 * v)) ∷ [])
 
 -- "a .. mask bit at or above n", "r above 1"
-unfoldable pub tie_found : ℕ → ℕ → List ℕ → ℕ → Found
+unfoldable pub tie_found : ℕ → ℕ → List ℕ → ℕ → Finding
 tie_found from n bs j =
     first_found
     (leb (2 ^ n) (mask_of n bs j) finds found Mask j (from + (5 + 9 * n + 9 * j))
@@ -45,7 +44,7 @@ tie_found from n bs j =
     ∷ [])
 
 -- 11
-unfoldable pub body_found : ℕ → ℕ → ℕ → List ℕ → Found
+unfoldable pub body_found : ℕ → ℕ → ℕ → List ℕ → Finding
 body_found from wat n bs =
     in_order
     (size_found from wat n bs
@@ -56,7 +55,7 @@ body_found from wat n bs =
     ∷ [])
 
 -- f is the first fault of a table's body of width n that starts at a byte: 11, then 12, at the body's first byte
-pub record TableFound (from wat n : ℕ) (bs : List ℕ) (f : Found) : Type 0 where
+pub record TableFound (from wat n : ℕ) (bs : List ℕ) (f : Finding) : Type 0 where
   pub fault : body_fault n bs ≡ true → f ≡ body_found from wat n bs
   pub broken : body_fault n bs ≡ false → (Normal (table_of n bs) → ⊥) → f ≡ found NotNormal 0 from
   pub good : body_fault n bs ≡ false → Normal (table_of n bs) → f ≡ sound

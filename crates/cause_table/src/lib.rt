@@ -1,36 +1,15 @@
 // The first fault of a table's body. Inner: asks that the body lies within a book.
 #![tactic(auto)]
 
-ghost use Rattle.std.specs.Prelude.{◌≡◌, ◌+◌, ◌≤◌, ◌^◌, leb, length};
-ghost use Rattle.state.specs.Number.{outside};
+ghost use Rattle.std.specs.Prelude.{◌≡◌, ◌+◌, ◌≤◌, length};
 ghost use Rattle.body_bytes.specs.Body.{tie_count};
 ghost use Rattle.cause.specs.Cause.{first_below};
 ghost use Rattle.cause_table.specs.Table.{size_found, head_found, turn_found, row_found, tie_found, body_found, TableFound};
 
 use cause::{Cause, Found};
 
-// Whether a power is below −2,000 or above 2,000.
-fn power_out(s: i32) -> bool
-    ensures { result ≡ outside s }
-{
-    if s < exact::LEAST_POWER {
-        return true;
-    }
-    s > exact::MOST_POWER
-}
-
-// Whether a mask has a bit at or above the width.
-fn mask_out(m: u64, width: u8) -> bool
-    ensures { result ≡ leb (2 ^ width) m }
-{
-    if width < 64 {
-        return m >> width > 0;
-    }
-    false
-}
-
 // The first fault of the width, whose byte stands in the contents, the length and the tie count.
-fn size(bs: &[u8], width: u8, from: usize, listed: usize) -> Found
+fn size(bs: &[u8], width: u8, from: usize, listed: usize) -> Result<(), Found>
     requires { from + length bs.now ≤ 60000 }
     ensures { result ≡ size_found from listed width bs.now }
 {
@@ -48,11 +27,11 @@ fn size(bs: &[u8], width: u8, from: usize, listed: usize) -> Found
     if bs.len() != least + 9 * (k as usize) {
         return cause::fault(Cause::Length, 0, from + bs.len());
     }
-    cause::sound()
+    Ok(())
 }
 
 // The first fault of the zero mark, the phase and the power.
-fn head(bs: &[u8], from: usize) -> Found
+fn head(bs: &[u8], from: usize) -> Result<(), Found>
     requires { from ≤ 60000 }
     ensures { result ≡ head_found from bs.now }
 {
@@ -62,115 +41,91 @@ fn head(bs: &[u8], from: usize) -> Found
     if fields::read_u8(bs, 1) > 7 {
         return cause::fault(Cause::Phase, 0, from + 1);
     }
-    if power_out(body_bytes::power_of(bs)) {
+    if body_fault::power_out(body_bytes::power_of(bs)) {
         return cause::fault(Cause::PowerOut, 0, from + 2);
     }
-    cause::sound()
+    Ok(())
 }
 
 // The first turn that is out of range.
-fn turns(bs: &[u8], width: u8, from: usize) -> Found
+fn turns(bs: &[u8], width: u8, from: usize) -> Result<(), Found>
     requires { from ≤ 60000 }
     ensures { result ≡ first_below width (turn_found from bs.now) }
 {
-    let mut v: u8 = 0;
-    while v < width {
+    for v in 0..width {
         if body_bytes::turn_of(bs, v) > 3 {
             return cause::fault(Cause::Turn, v as usize, from + (4 + v as usize));
         }
-        v += 1;
     }
-    cause::sound()
+    Ok(())
 }
 
 // The first row that has a bit at or above the width.
-fn rows(bs: &[u8], width: u8, from: usize) -> Found
+fn rows(bs: &[u8], width: u8, from: usize) -> Result<(), Found>
     requires { from ≤ 60000 }
     ensures { result ≡ first_below width (row_found from width bs.now) }
 {
-    let mut v: u8 = 0;
-    while v < width {
-        if mask_out(body_bytes::row_of(bs, width, v), width) {
+    for v in 0..width {
+        if body_fault::mask_out(body_bytes::row_of(bs, width, v), width) {
             return cause::fault(
                 Cause::Row,
                 v as usize,
                 from + (4 + width as usize + 8 * (v as usize)),
             );
         }
-        v += 1;
     }
-    cause::sound()
+    Ok(())
 }
 
 // The fault of tie j: its mask, then its r.
-fn tie(bs: &[u8], width: u8, j: u8, from: usize) -> Found
+fn tie(bs: &[u8], width: u8, j: u8, from: usize) -> Result<(), Found>
     requires { from ≤ 60000 }
     ensures { result ≡ tie_found from width bs.now j }
 {
     let at = 5 + 9 * (width as usize) + 9 * (j as usize);
-    if mask_out(body_bytes::mask_of(bs, width, j), width) {
+    if body_fault::mask_out(body_bytes::mask_of(bs, width, j), width) {
         return cause::fault(Cause::Mask, j as usize, from + at);
     }
     if body_bytes::side_of(bs, width, j) > 1 {
         return cause::fault(Cause::Side, j as usize, from + (at + 8));
     }
-    cause::sound()
+    Ok(())
 }
 
 // The first tie that is out of range.
-fn ties(bs: &[u8], width: u8, from: usize) -> Found
+fn ties(bs: &[u8], width: u8, from: usize) -> Result<(), Found>
     requires { from ≤ 60000 }
     ensures { result ≡ first_below (tie_count width bs.now) (tie_found from width bs.now) }
 {
     let k = body_bytes::count_of(bs, width);
-    let mut j: u8 = 0;
-    while j < k {
-        let f = tie(bs, width, j, from);
-        if cause::refusal(f) != 0 {
-            return f;
-        }
-        j += 1;
+    for j in 0..k {
+        tie(bs, width, j, from)?;
     }
-    cause::sound()
+    Ok(())
 }
 
 // The first fault of the fields.
-fn fields_of(bs: &[u8], width: u8, from: usize, listed: usize) -> Found
+fn fields_of(bs: &[u8], width: u8, from: usize, listed: usize) -> Result<(), Found>
     requires { from + length bs.now ≤ 60000 }
     ensures { result ≡ body_found from listed width bs.now }
 {
-    let s = size(bs, width, from, listed);
-    if cause::refusal(s) != 0 {
-        return s;
-    }
-    let h = head(bs, from);
-    if cause::refusal(h) != 0 {
-        return h;
-    }
-    let a = turns(bs, width, from);
-    if cause::refusal(a) != 0 {
-        return a;
-    }
-    let b = rows(bs, width, from);
-    if cause::refusal(b) != 0 {
-        return b;
-    }
+    size(bs, width, from, listed)?;
+    head(bs, from)?;
+    turns(bs, width, from)?;
+    rows(bs, width, from)?;
     ties(bs, width, from)
 }
 
 // The first fault of a table's body that starts at a byte of a book: its fields, then that its table is not normal.
-pub fn table(bs: &[u8], width: u8, from: usize, listed: usize) -> Found
+pub fn table(bs: &[u8], width: u8, from: usize, listed: usize) -> Result<(), Found>
     requires { from + length bs.now ≤ 60000 }
     ensures { TableFound from listed width bs.now result }
 {
-    let f = fields_of(bs, width, from, listed);
-    if cause::refusal(f) != 0 {
-        return f;
-    }
+    fields_of(bs, width, from, listed)?;
     let r = body_read::read(bs, width);
     let refusal = r.refusal;
     if refusal != 0 {
         return cause::fault(Cause::NotNormal, 0, from);
     }
-    cause::sound()
+    Ok(())
 }

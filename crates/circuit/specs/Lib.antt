@@ -1,1 +1,2 @@
 pub mod Amplitude
+pub mod Inner

@@ -3,6 +3,32 @@
 
 ghost use Rattle.std.specs.Prelude.{◌≡◌};
 ghost use Rattle.contents.specs.Contents.{edition_of, count_of, entry_of, header_fault, good_kind, fault_at, contents_number};
+ghost use Rattle.contents.specs.Inner.Kind.{StatesKind};
+
+use exact::Refusal;
+
+// What a body holds, with the number that an entry states.
+#[derive(Clone, Copy, Debug, PartialEq, Eq)]
+pub enum Kind {
+    Circuit = 1,
+    Table = 2,
+    Record = 3,
+}
+
+impl TryFrom<u8> for Kind {
+    type Error = Refusal;
+
+    ghost try_from_gives = { StatesKind };
+
+    fn try_from(stated: u8) -> Result<Kind, Refusal> {
+        match stated {
+            1 => Ok(Kind::Circuit),
+            2 => Ok(Kind::Table),
+            3 => Ok(Kind::Record),
+            _ => Err(Refusal::BadContents),
+        }
+    }
+}
 
 // What the contents state of a body.
 #[derive(Clone, Copy)]
@@ -56,57 +82,36 @@ pub fn entry_at(bs: &[u8], j: usize) -> Entry
 }
 
 // Whether the header is refused.
+#[tactic(auto, unfolding(crate::specs::Contents::header_fault))]
 fn header_fault(bs: &[u8]) -> bool
     ensures { result ≡ header_fault bs.now }
 {
-    if bs.len() < 4 {
-        return true;
-    }
-    if bs.len() > exact::MOST_BYTES {
-        return true;
-    }
-    if bs[0] != 0x51 {
-        return true;
-    }
-    if bs[1] != 0x4E {
-        return true;
-    }
-    if !editions::good_edition(edition(bs)) {
-        return true;
-    }
-    count(bs) > exact::MOST_BODIES
+    bs.len() < 4
+        || bs.len() > exact::MOST_BYTES
+        || bs[0] != 0x51
+        || bs[1] != 0x4E
+        || !editions::good_edition(edition(bs))
+        || count(bs) > exact::MOST_BODIES
 }
 
 // Whether a kind is one of the two, or a record's in edition 2.
+#[tactic(auto, unfolding(crate::specs::Contents::good_kind))]
 pub fn good_kind(edition: u8, kind: u8) -> bool
     ensures { result ≡ good_kind edition kind }
 {
-    if kind == 1 {
-        return true;
+    match Kind::try_from(kind) {
+        Ok(Kind::Circuit | Kind::Table) => true,
+        Ok(Kind::Record) => edition == editions::SECOND,
+        Err(_) => false,
     }
-    if kind == 2 {
-        return true;
-    }
-    if edition != editions::SECOND {
-        return false;
-    }
-    kind == 3
 }
 
 // Whether an entry is refused whose body is to start at a place of a book of an edition and so many bytes.
+#[tactic(auto, unfolding(crate::specs::Contents::fault_at))]
 fn fault_at(edition: u8, e: Entry, from: usize, size: usize) -> bool
     ensures { result ≡ fault_at edition e from size }
 {
-    if !good_kind(edition, e.kind) {
-        return true;
-    }
-    if e.start != from {
-        return true;
-    }
-    if size < e.start {
-        return true;
-    }
-    size - e.start < e.length
+    !good_kind(edition, e.kind) || e.start != from || size < e.start || size - e.start < e.length
 }
 
 // The number that refuses the header or the contents of a book, 0 where they are good.
@@ -123,14 +128,12 @@ pub fn test(bs: &[u8]) -> u8
     }
     let edition = edition(bs);
     let mut at = first;
-    let mut j = 0usize;
-    while j < n {
+    for j in 0..n {
         let e = entry_at(bs, j);
         if fault_at(edition, e, at, bs.len()) {
             return exact::BAD_CONTENTS;
         }
         at += e.length;
-        j += 1;
     }
     if at != bs.len() {
         return exact::BAD_CONTENTS;

@@ -4,7 +4,7 @@
 ghost use Rattle.std.specs.Prelude.{◌≡◌, ◌≤◌, length};
 ghost use Rattle.fields.specs.Bytes.{front};
 ghost use Rattle.contents.specs.Contents.{any_below};
-ghost use Rattle.contents_lay.specs.Lay.{header_bytes, entry_bytes, entries_bytes, laid_start, bad_kind, lay_number, ContentsLaid};
+ghost use Rattle.contents_lay.specs.Lay.{header_bytes, entry_bytes, entries_bytes, laid_start, too_many, bad_kind, bad_lists, lay_number, ContentsLaid};
 ghost use Rattle.contents_lay.specs.Inner.Entries.{Entries};
 
 // What a writer answers: a refusal's number or 0, and the bytes written.
@@ -18,14 +18,9 @@ pub struct Written {
 fn bad_kind(edition: u8, kinds: &[u8]) -> bool
     ensures { result ≡ any_below (length kinds.now) (bad_kind edition kinds.now) }
 {
-    let mut i = 0usize;
-    while i < kinds.len() {
-        if !contents::good_kind(edition, kinds[i]) {
-            return true;
-        }
-        i += 1;
-    }
-    false
+    kinds
+        .iter()
+        .any(|kind| !contents::good_kind(edition, *kind))
 }
 
 // The size of the book: header, contents and bodies of these lengths.
@@ -34,12 +29,32 @@ fn book_size(lengths: &[u16]) -> usize
     ensures { result ≡ laid_start lengths.now (length lengths.now) }
 {
     let mut size = 4 + 8 * lengths.len();
-    let mut i = 0usize;
-    while i < lengths.len() {
+    for i in 0..lengths.len() {
         size += lengths[i] as usize;
-        i += 1;
     }
     size
+}
+
+// Whether one of the lists is of more than 16.
+#[tactic(auto, unfolding(crate::specs::Lay::too_many))]
+fn too_many(kinds: &[u8], widths: &[u8], lengths: &[u16]) -> bool
+    ensures { result ≡ too_many kinds.now widths.now lengths.now }
+{
+    kinds.len() > exact::MOST_BODIES
+        || widths.len() > exact::MOST_BODIES
+        || lengths.len() > exact::MOST_BODIES
+}
+
+// Whether lists of at most 16 are unequal, of a bad kind, or of too many bytes.
+#[tactic(auto, unfolding(crate::specs::Lay::bad_lists))]
+fn bad_lists(edition: u8, kinds: &[u8], widths: &[u8], lengths: &[u16]) -> bool
+    requires { length lengths.now ≤ 16 }
+    ensures { result ≡ bad_lists edition kinds.now widths.now lengths.now }
+{
+    widths.len() != kinds.len()
+        || lengths.len() != kinds.len()
+        || bad_kind(edition, kinds)
+        || book_size(lengths) > exact::MOST_BYTES
 }
 
 // The number that refuses to lay these lists in an area of so many bytes, 0 where they are laid.
@@ -49,29 +64,13 @@ fn lay_number(room: usize, edition: u8, kinds: &[u8], widths: &[u8], lengths: &[
     if !editions::good_edition(edition) {
         return exact::BAD_HEADER;
     }
-    let n = kinds.len();
-    if n > exact::MOST_BODIES {
+    if too_many(kinds, widths, lengths) {
         return exact::BAD_HEADER;
     }
-    if widths.len() > exact::MOST_BODIES {
-        return exact::BAD_HEADER;
-    }
-    if lengths.len() > exact::MOST_BODIES {
-        return exact::BAD_HEADER;
-    }
-    if widths.len() != n {
+    if bad_lists(edition, kinds, widths, lengths) {
         return exact::BAD_CONTENTS;
     }
-    if lengths.len() != n {
-        return exact::BAD_CONTENTS;
-    }
-    if bad_kind(edition, kinds) {
-        return exact::BAD_CONTENTS;
-    }
-    if book_size(lengths) > exact::MOST_BYTES {
-        return exact::BAD_CONTENTS;
-    }
-    if room < 4 + 8 * n {
+    if room < 4 + 8 * kinds.len() {
         return exact::AREA_SHORT;
     }
     0
@@ -105,13 +104,11 @@ fn write_entries(part: &mut [u8], kinds: &[u8], widths: &[u8], lengths: &[u16])
     ensures { part.new ≡ front part.old (entries_bytes kinds.now widths.now lengths.now (length kinds.now)) }
 {
     let mut start = 4 + 8 * lengths.len();
-    let mut j = 0usize;
-    while j < kinds.len() {
+    for j in 0..kinds.len() {
         let at = 8 * j;
         let size = lengths[j];
         write_entry(&mut part[at..], kinds[j], widths[j], size, start as u32);
         start += size as usize;
-        j += 1;
     }
 }
 
@@ -121,10 +118,7 @@ pub fn lay(area: &mut [u8], edition: u8, kinds: &[u8], widths: &[u8], lengths: &
 {
     let refusal = lay_number(area.len(), edition, kinds, widths, lengths);
     if refusal != 0 {
-        return Written {
-            refusal: refusal,
-            bytes: 0,
-        };
+        return Written { refusal, bytes: 0 };
     }
     let n = kinds.len();
     write_header(area, edition, n as u8);

@@ -1,6 +1,7 @@
 -- The answer's three cases, and an amount's answer. "refused as Entry is; otherwise an entry's value, either plain zero or two doubles"
 use Rattle.std.specs.Prelude.{ℕ, ◌%◌, List, [], ◌∷◌, ℤ, Float}
 use Rattle.std.proofs.Math.IntN.{pred_ℤ}
+use Rattle.exact.specs.Code.{code_of}
 use Rattle.exact.specs.declared.Amount.{Amount}
 use Rattle.exact.specs.declared.Amount.TheVariants.{Some}
 use Rattle.doubles.specs.Power.{root_power}
@@ -16,7 +17,7 @@ pub record Answer : Type 0 where
 
 -- each case's number and values
 unfoldable pub answer : Doubles → Answer
-answer (Refused k) = record { number = k; values = [] }
+answer (Refused r) = record { number = code_of r; values = [] }
 answer Zero = record { number = 0; values = plus_zero ∷ [] }
 answer (Value x y) = record { number = 0; values = x ∷ y ∷ [] }
 

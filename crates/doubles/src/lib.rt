@@ -7,12 +7,13 @@ ghost use Rattle.doubles.specs.Answer.{answer, parts_of, answer_of};
 ghost use Rattle.doubles.specs.Inner.Answer.{answer_for};
 ghost use Rattle.doubles.specs.Entry.{DoublesAt};
 
+use exact::{Amount, Eighth, Power, Refusal};
 use state::State;
 
-// An entry's value: a refusal's number, plain zero, or two doubles, the real part first.
+// An entry's value: why it is refused, plain zero, or two doubles, the real part first.
 #[derive(Clone, Copy)]
 pub enum Doubles {
-    Refused(u8),
+    Refused(Refusal),
     Zero,
     Value(f64, f64),
 }
@@ -25,10 +26,8 @@ fn repeat(x: f64, factor: f64, n: u32) -> f64
     ensures { result ≡ repeated x factor n }
 {
     let mut r = x;
-    let mut i = 0u32;
-    while i < n {
+    for i in 0..n {
         r = r * factor;
-        i += 1;
     }
     r
 }
@@ -37,23 +36,14 @@ fn repeat(x: f64, factor: f64, n: u32) -> f64
 fn raise(power: i32) -> u32
     ensures { result ≡ raised power }
 {
-    if power < exact::LEAST_POWER {
-        return 2;
-    }
-    if power > exact::MOST_POWER {
-        return 4002;
-    }
-    (power + 2002) as u32
+    (power.clamp(exact::LEAST_POWER, exact::MOST_POWER) + 2002) as u32
 }
 
 // What is doubled or halved: 1 for an even power, the root of two for an odd one.
 fn start(u: u32) -> f64
     ensures { result ≡ start_at u }
 {
-    if u % 2 == 0 {
-        return 1.0;
-    }
-    ROOT
+    if u % 2 == 0 { 1.0 } else { ROOT }
 }
 
 // The root of two to the power u − 2,002.
@@ -87,22 +77,24 @@ fn parts(power: i32, phase: u8) -> Doubles
 }
 
 // An amount's value. A power beyond ±2,000 counts as the nearer end, a phase above 7 modulo 8.
-pub fn of_amount(a: exact::Amount) -> Doubles
+#[tactic(auto, unfolding(crate::specs::Answer::answer_of, crate::specs::Answer::answer))]
+pub fn of_amount(a: Amount) -> Doubles
     ensures { answer result ≡ answer_of a }
 {
     match a {
-        exact::Amount::Zero => Doubles::Zero,
-        exact::Amount::Some(power, phase) => parts(power.0, phase.0),
+        Amount::Zero => Doubles::Zero,
+        Amount::Some(Power(power), Eighth(phase)) => parts(power, phase),
     }
 }
 
-// An answer's value: refused by the same number, or the amount's.
-fn of_answer(a: exact::Answer) -> Doubles
+// An answer's value: refused as it is, or the amount's.
+#[tactic(auto, unfolding(crate::specs::Inner::Answer::answer_for, crate::specs::Answer::answer))]
+fn of_answer(a: Result<Amount, Refusal>) -> Doubles
     ensures { answer result ≡ answer_for a }
 {
     match a {
-        exact::Answer::Refused(number) => Doubles::Refused(number),
-        exact::Answer::Is(amount) => of_amount(amount),
+        Err(refusal) => Doubles::Refused(refusal),
+        Ok(amount) => of_amount(amount),
     }
 }
 

@@ -1,2 +1,1 @@
-pub mod Held
 pub mod Spliced

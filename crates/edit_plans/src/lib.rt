@@ -7,7 +7,7 @@ ghost use Rattle.edit_numbers.specs.Volume.{skip, remove, replace, add, volume_o
 ghost use Rattle.edit_plans.specs.Inner.Lists.{Readable, Reads, Put};
 ghost use Rattle.edit_plans.specs.Inner.Plan.{NewFits, Planned};
 
-// Kinds, widths and lengths of so many bodies.
+// Kinds, widths and lengths of so many bodies: three lists, as the C interface lays a book (`topazfern_lay`).
 #[derive(Clone, Copy)]
 pub struct Lists {
     pub count: usize,
@@ -31,10 +31,7 @@ fn skip(j: usize, i: usize) -> usize
     requires { i < 16 }
     ensures { result ≡ skip j i }
 {
-    if i < j {
-        return i;
-    }
-    i + 1
+    if i < j { i } else { i + 1 }
 }
 
 // The lists of the first `count` bodies of a book without body j.
@@ -45,19 +42,17 @@ fn read(book: &[u8], count: usize, j: usize) -> Lists
     let mut kinds = [0u8; 16];
     let mut widths = [0u8; 16];
     let mut lengths = [0u16; 16];
-    let mut i = 0usize;
-    while i < count {
+    for i in 0..count {
         let e = contents::entry_at(book, skip(j, i));
         kinds[i] = e.kind;
         widths[i] = e.width;
         lengths[i] = e.length as u16;
-        i += 1;
     }
     Lists {
-        count: count,
-        kinds: kinds,
-        widths: widths,
-        lengths: lengths,
+        count,
+        kinds,
+        widths,
+        lengths,
     }
 }
 
@@ -66,18 +61,12 @@ fn put(l: Lists, count: usize, j: usize, kind: u8, width: u8, size: u16) -> List
     requires { j < 16 }
     ensures { Put l count j kind width size result }
 {
-    let mut kinds = l.kinds;
-    let mut widths = l.widths;
-    let mut lengths = l.lengths;
-    kinds[j] = kind;
-    widths[j] = width;
-    lengths[j] = size;
-    Lists {
-        count: count,
-        kinds: kinds,
-        widths: widths,
-        lengths: lengths,
-    }
+    let mut put = l;
+    put.count = count;
+    put.kinds[j] = kind;
+    put.widths[j] = width;
+    put.lengths[j] = size;
+    put
 }
 
 // Body j goes.
@@ -111,7 +100,7 @@ pub fn replacement(book: &[u8], j: usize, kind: u8, width: u8, body: &[u8]) -> P
         edition: contents::edition(book),
         lists: put(l, count, j, kind, width, come as u16),
         old: 4 + 8 * count,
-        from: from,
+        from,
         to: from + gone,
     }
 }

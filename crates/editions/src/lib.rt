@@ -10,11 +10,9 @@ pub const FIRST: u8 = 1;
 pub const SECOND: u8 = 2;
 
 // Whether an edition is one of the two.
+#[tactic(auto, unfolding(crate::specs::Edition::good_edition))]
 pub fn good_edition(edition: u8) -> bool
     ensures { result ≡ good_edition edition }
 {
-    if edition == FIRST {
-        return true;
-    }
-    edition == SECOND
+    matches!(edition, FIRST | SECOND)
 }

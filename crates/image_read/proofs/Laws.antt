@@ -1,4 +1,3 @@
-pub mod Fill
 pub mod Parts
 pub mod Read
 pub mod Only

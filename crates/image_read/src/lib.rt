@@ -15,7 +15,7 @@ use labels::Labels;
 use state::State;
 use ties::Ties;
 
-// What reading a table answers: a refusal's number or 0, its state and its labels; where refused, the fresh ones.
+// What reading a table answers: a refusal's number or 0, its state and its labels; no Result, since `Reads` promises the fresh ones where refused.
 #[derive(Clone, Copy)]
 pub struct Reading {
     pub refusal: u8,
@@ -35,13 +35,7 @@ fn turn_of(bs: &[u8], v: usize) -> Quarter
 fn turns_of(bs: &[u8]) -> [Quarter; 64]
     ensures { result ≡ listed 64 (turn_of bs.now) }
 {
-    let mut turns = [Quarter(0); 64];
-    let mut v: usize = 0;
-    while v < 64 {
-        turns[v] = turn_of(bs, v);
-        v += 1;
-    }
-    turns
+    std::array::from_fn(|v| turn_of(bs, v))
 }
 
 // The 64 numbers of eight bytes from a place on.
@@ -49,26 +43,14 @@ fn numbers_of(bs: &[u8], at: usize) -> [u64; 64]
     requires { at ≤ 1293 }
     ensures { result ≡ listed 64 (λ v. number 8 bs.now (at + 8 * v)) }
 {
-    let mut numbers = [0u64; 64];
-    let mut v: usize = 0;
-    while v < 64 {
-        numbers[v] = fields::read_u64(bs, at + 8 * v);
-        v += 1;
-    }
-    numbers
+    std::array::from_fn(|v| fields::read_u64(bs, at + 8 * v))
 }
 
 // The sides of all places.
 fn sides_of(bs: &[u8]) -> [u8; 64]
     ensures { result ≡ listed 64 (side_of bs.now) }
 {
-    let mut sides = [0u8; 64];
-    let mut j: usize = 0;
-    while j < 64 {
-        sides[j] = fields::read_u8(bs, 1101 + j);
-        j += 1;
-    }
-    sides
+    std::array::from_fn(|j| fields::read_u8(bs, 1101 + j))
 }
 
 // The label of slot v.
@@ -83,13 +65,9 @@ fn label_of(bs: &[u8], v: usize) -> Label
 fn labels_of(bs: &[u8]) -> Labels
     ensures { result ≡ labels_of bs.now }
 {
-    let mut of = [Label(0); 64];
-    let mut v: usize = 0;
-    while v < 64 {
-        of[v] = label_of(bs, v);
-        v += 1;
+    Labels {
+        of: std::array::from_fn(|v| label_of(bs, v)),
     }
-    Labels { of: of }
 }
 
 // The form that the bytes state.
@@ -150,10 +128,7 @@ pub fn read(bs: &[u8]) -> Reading
     }
     let t = state_of(bs);
     let ls = labels_of(bs);
-    if !state_normal::normal(t) {
-        return refused(exact::NOT_NORMAL);
-    }
-    if !ls.proper(t.live) {
+    if !state_normal::normal(t) || !ls.proper(t.live) {
         return refused(exact::NOT_NORMAL);
     }
     Reading {

@@ -15,17 +15,16 @@ use labels::Labels;
 use state::State;
 use ties::Ties;
 
+// ---- The lists. Each has its loop, as in body_fields: one writer that takes the field would be no plainer, since the field and its size are all that a loop says.
 // The masks of all 64 places at the front of the part.
 fn write_masks(part: &mut [u8], t: Ties)
     requires { 512 ≤ length part.old }
     ensures { part.new ≡ front part.old (joined 64 (λ j. le 8 (mask_at t j))) }
 {
-    let mut j = 0usize;
-    while j < 64 {
+    for j in 0..64usize {
         let at = 8 * j;
         let a = t.tie_at(j);
         fields::write_u64(&mut part[at..], a.mask);
-        j += 1;
     }
 }
 
@@ -34,11 +33,9 @@ fn write_sides(part: &mut [u8], t: Ties)
     requires { 64 ≤ length part.old }
     ensures { part.new ≡ front part.old (joined 64 (λ j. side_at t j ∷ [])) }
 {
-    let mut j = 0usize;
-    while j < 64 {
+    for j in 0..64usize {
         let a = t.tie_at(j);
         fields::write_u8(&mut part[j..], a.side);
-        j += 1;
     }
 }
 
@@ -47,12 +44,10 @@ fn write_labels(part: &mut [u8], ls: Labels)
     requires { 128 ≤ length part.old }
     ensures { part.new ≡ front part.old (joined 64 (λ v. le 2 (label_at ls v))) }
 {
-    let mut v = 0usize;
-    while v < 64 {
+    for v in 0..64usize {
         let at = 2 * v;
         let l = ls.at(Slot(v));
         fields::write_u16(&mut part[at..], l.0);
-        v += 1;
     }
 }
 

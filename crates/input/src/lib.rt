@@ -35,6 +35,7 @@ pub fn fill<R: Read>(reader: &mut R, area: &mut [u8]) -> Input
     ensures end { IsTrue result.whole → result.bytes < length area.new → IsAtEnd (R.remaining reader.new) }
 {
     let mut n = 0usize;
+    // a cursor: each read moves it on by as many bytes as it gave
     while n < area.len() {
         let got = more(reader, &mut area[n..]);
         let bytes = got.bytes;

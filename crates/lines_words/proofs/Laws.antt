@@ -4,3 +4,4 @@ pub mod Digits
 pub mod Decimal
 pub mod Signed
 pub mod Only
+pub mod Writer

@@ -1,2 +1,3 @@
 pub mod Overlay
 pub mod Text
+pub mod Inner

@@ -2,48 +2,14 @@
 #![tactic(auto)]
 
 ghost use Rattle.std.specs.Prelude.{◌≡◌, [], ◌∷◌, nat_abs};
-ghost use Rattle.lines_words.specs.Overlay.{TextLaid};
+ghost use Rattle.lines_words.specs.Inner.Writer.{Lays};
 ghost use Rattle.lines_words.specs.Text.{digits, signed_text};
 
-// The largest place.
-const TOP: usize = 18446744073709551615;
-
-// One byte at a place of the area. Answers the next place; beyond the area's end the byte is dropped, and the place counts it all the same.
-fn put_byte(area: &mut [u8], at: usize, b: u8) -> usize
-    ensures { TextLaid area.old at (b ∷ []) area.new result }
-{
-    if at < area.len() {
-        area[at] = b;
-        return at + 1;
-    }
-    if at < TOP {
-        return at + 1;
-    }
-    at
-}
-
-// The bytes of a word, from a place of the area on.
-pub fn put_word(area: &mut [u8], at: usize, word: &[u8]) -> usize
-    ensures { TextLaid area.old at word.now area.new result }
-{
-    let mut place = at;
-    let mut i = 0usize;
-    while i < word.len() {
-        place = put_byte(area, place, word[i]);
-        i += 1;
-    }
-    place
-}
-
-// A number in decimal: the digits of a tenth of it, then its last digit.
-pub fn put_number(area: &mut [u8], at: usize, n: u64) -> usize
-    ensures { TextLaid area.old at (digits n) area.new result }
-{
-    if n < 10 {
-        return put_byte(area, at, 48 + (n as u8));
-    }
-    let next = put_number(area, at, n / 10);
-    put_byte(area, next, 48 + ((n % 10) as u8))
+// A lent area, and the place of its next byte. Beyond the area's end bytes are dropped, and the place counts them all the same.
+#[derive(Drop)]
+pub struct Text<'a> {
+    area: &'a mut [u8],
+    at: usize,
 }
 
 // A signed number without its sign.
@@ -56,13 +22,60 @@ pub fn size(n: i32) -> u64
     n as u64
 }
 
-// A number in decimal, with a minus sign where it is negative.
-pub fn put_signed(area: &mut [u8], at: usize, n: i32) -> usize
-    ensures { TextLaid area.old at (signed_text n) area.new result }
-{
-    if n < 0 {
-        let next = put_byte(area, at, 45);
-        return put_number(area, next, size(n));
+impl<'a> Text<'a> {
+    // No byte is written yet.
+    pub fn over(area: &'a mut [u8]) -> Text<'a>
+        ensures same { result.area.ghost_name ≡ area.entry.ghost_name }
+        ensures begun { (result.area.now ≡ area.old) × (result.at ≡ 0) }
+    {
+        Text { area, at: 0 }
     }
-    put_number(area, at, size(n))
+
+    // The place behind what was written.
+    pub fn place(&self) -> usize
+        ensures { result ≡ self.now.at }
+    {
+        self.at
+    }
+
+    // One byte.
+    fn byte(&mut self, b: u8)
+        ensures { Lays self.old (b ∷ []) self.new }
+    {
+        let at = self.at;
+        if at < self.area.len() {
+            self.area[at] = b;
+        }
+        self.at = at.saturating_add(1);
+    }
+
+    // The bytes of a word.
+    pub fn word(&mut self, word: &[u8])
+        ensures { Lays self.old word.now self.new }
+    {
+        for b in word {
+            self.byte(*b);
+        }
+    }
+
+    // A number in decimal: the digits of a tenth of it, then its last digit.
+    pub fn number(&mut self, n: u64)
+        ensures { Lays self.old (digits n) self.new }
+    {
+        let digit = 48 + (n % 10) as u8;
+        if n >= 10 {
+            self.number(n / 10);
+        }
+        self.byte(digit);
+    }
+
+    // A number in decimal, with a minus sign where it is negative.
+    pub fn signed(&mut self, n: i32)
+        ensures { Lays self.old (signed_text n) self.new }
+    {
+        if n < 0 {
+            self.word(b"-");
+        }
+        self.number(size(n));
+    }
 }

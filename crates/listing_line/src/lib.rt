@@ -2,11 +2,12 @@
 #![tactic(auto)]
 
 ghost use Rattle.std.specs.Prelude.{◌≡◌};
-ghost use Rattle.lines_words.specs.Overlay.{TextLaid};
+ghost use Rattle.lines_words.specs.Inner.Writer.{Lays};
 ghost use Rattle.listing_line.specs.Line.{table_amount, body_line};
 
 use book_bodies::{Body, Said};
 use exact::Amount;
+use lines_words::Text;
 use state::State;
 
 // What a table's line shows as its amount: zero, or its power and its phase.
@@ -22,20 +23,20 @@ pub fn table_amount(t: State) -> Amount
     Amount::Some(power, phase)
 }
 
-// The line of body j, from a place of the area on.
-pub fn body_line(area: &mut [u8], at: usize, j: u8, b: Body) -> usize
-    ensures { TextLaid area.old at (body_line j b.said b.table) area.new result }
+// The line of body j.
+pub fn body_line(text: &mut Text, j: u8, b: Body)
+    ensures { Lays text.old (body_line j b.said b.table) text.new }
 {
     let t = b.table;
     let s = b.said;
     match s {
-        Said::Refused(k) => lines::refused_body_line(area, at, j, k),
-        Said::Circuit(a) => lines::circuit_line(area, at, j, a),
-        Said::Record(c) => lines::record_line(area, at, j, c),
+        Said::Refused(k) => lines::refused_body_line(text, j, k),
+        Said::Circuit(a) => lines::circuit_line(text, j, a),
+        Said::Record(c) => lines::record_line(text, j, c),
         Said::Whole => {
             let live = bits::count(t.live);
             let ties = t.ties.count;
-            lines::table_line(area, at, j, live, ties, table_amount(t))
+            lines::table_line(text, j, live, ties, table_amount(t))
         }
     }
 }

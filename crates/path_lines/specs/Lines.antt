@@ -1,12 +1,13 @@
 -- The line of a table in the listing of paths: its number, the four numbers and the power, then what is left once the bits are summed away.
-use Rattle.std.specs.Prelude.{List, ◌++◌, ℕ}
+use Rattle.std.specs.Prelude.{List, ◌++◌, ℕ, Result, Ok, Err}
+use Rattle.exact.specs.Code.{code_of}
+use Rattle.exact.specs.declared.Refusal.{Refusal}
 use Rattle.exact.specs.declared.Answer.{Answer}
 use Rattle.exact.specs.declared.Answer.TheVariants as answer
 use Rattle.lines_words.specs.Text.{letters, digits, signed_text}
 use Rattle.lines.specs.Lines.{amount_text}
 use Rattle.path_sum.specs.declared.Four.{Four}
 use Rattle.path_sum.specs.declared.PathSum.{PathSum}
-use Rattle.path_sum.specs.declared.PathSum.TheVariants.{Refused, Is}
 
 -- "either half may read `refused` and a number"
 unfoldable pub refused_text : ℕ → List ℕ
@@ -17,9 +18,9 @@ unfoldable pub four_text : Four → List ℕ
 four_text f = signed_text f.c0 ++ letters " " ++ signed_text f.c1 ++ letters " " ++ signed_text f.c2 ++ letters " " ++ signed_text f.c3
 
 -- "the four numbers and power"
-unfoldable pub paths_text : PathSum → List ℕ
-paths_text (Refused n) = refused_text n
-paths_text (Is f s) = four_text f ++ letters " " ++ signed_text s.0
+unfoldable pub paths_text : Result PathSum Refusal → List ℕ
+paths_text (Err r) = refused_text (code_of r)
+paths_text (Ok s) = four_text s.four ++ letters " " ++ signed_text s.power.0
 
 -- "the summed power and phase or `zero`"
 unfoldable pub summed_text : Answer → List ℕ
@@ -27,5 +28,5 @@ summed_text (answer.Refused n) = refused_text n
 summed_text (answer.Is a) = amount_text a
 
 -- "a line of number, the four numbers and power, then the summed power and phase or `zero`"
-unfoldable pub path_line : ℕ → PathSum → Answer → List ℕ
+unfoldable pub path_line : ℕ → Result PathSum Refusal → Answer → List ℕ
 path_line j r a = digits j ++ letters " " ++ paths_text r ++ letters " " ++ summed_text a ++ letters "\n"

@@ -1,6 +1,7 @@
 -- The listing of the paths of a book: the count, a line for each table; or the single line of a refused book.
-use Rattle.std.specs.Prelude.{List, [], ◌++◌, ◌≢◌, ◌≡◌, ℕ, zero, suc, ◌≤◌, ◌<◌, length}
+use Rattle.std.specs.Prelude.{List, [], ◌++◌, ◌≢◌, ◌≡◌, ℕ, zero, suc, ◌≤◌, ◌<◌, length, Result}
 use Rattle.exact.specs.Refusal.{accepted}
+use Rattle.exact.specs.declared.Refusal.{Refusal}
 use Rattle.exact.specs.declared.Answer.{Answer}
 use Rattle.contents.specs.Contents.{count_of}
 use Rattle.lines_words.specs.Overlay.{TextLaid}
@@ -18,7 +19,7 @@ use Rattle.path_lines.specs.Lines.{path_line}
 
 -- the two halves of a table's line
 pub record Halves : Type 0 where
-  pub paths : PathSum
+  pub paths : Result PathSum Refusal
   pub summed : Answer
 
 -- what each half answers of a table

@@ -1,49 +1,15 @@
 // Reads a book from standard input to its end and writes the listing of its paths to standard output.
 #![tactic(auto)]
 
-use std::io;
-use std::io::{IsTerminal, Write};
-
-// A message on standard error; where it cannot be written nobody can be told.
-fn tell(errors: &mut impl Write, message: &[u8]) {
-    let _ = errors.write_all(message);
-}
-
-// A write that failed is told on standard error, as a read is.
-fn said(errors: &mut impl Write, written: io::Result<()>) {
-    if written.is_err() {
-        tell(errors, b"paths: standard output cannot be written\n");
-    }
-}
-
-// The listing of the paths of a book. The longest has 888 bytes.
-fn show(out: &mut impl Write, errors: &mut impl Write, book: &[u8]) {
-    let mut text = [0u8; 888];
-    let n = path_listing::list(book, &mut text);
-    said(errors, out.write_all(&text[..n]));
-}
-
-// Someone who starts the program at a terminal learns what it waits for.
-fn hint(input: &impl IsTerminal, errors: &mut impl Write) {
-    if input.is_terminal() {
-        tell(
-            errors,
-            b"paths: reads a book from standard input (paths < FILE)\n",
-        );
-    }
-}
-
-// That a book has more than 60,000 bytes is all that matters of a longer one. Where a read failed there is no book, and so no listing.
+// The longest listing has 888 bytes.
 fn main(rt: HostRuntime) {
-    let mut input = rt.stdin();
-    let mut errors = rt.stderr();
-    hint(&input, &mut errors);
-    let mut area = [0u8; 60001];
-    let read = input::fill(&mut input, &mut area);
-    let n = read.bytes;
-    if read.whole {
-        show(&mut rt.stdout(), &mut errors, &area[..n]);
-    } else {
-        tell(&mut errors, b"paths: standard input cannot be read\n");
-    }
+    let mut text = [0u8; 888];
+    program::run(
+        "paths",
+        &mut rt.stdin(),
+        &mut rt.stdout(),
+        &mut rt.stderr(),
+        &mut text,
+        path_listing::list,
+    );
 }

@@ -1,91 +1,60 @@
 // Reads a book from standard input to its end and compares its circuits in pairs, 2j with 2j + 1: for each pair a line, whether they are the same operator, the same up to a common phase, or differ.
 #![tactic(auto)]
 
-ghost use Rattle.std.specs.Prelude.{◌≡◌, ◌+◌, ◌≤◌, length};
-
-use contents::Entry;
-use operator::Aligned;
+use contents::{Entry, Kind};
+use exact::{Eighth, Refusal};
 use std::io;
-use std::io::{IsTerminal, Write};
+use std::io::Write;
 
-// Where a body is no circuit, or there is none.
-const NO_CIRCUIT: u8 = 10;
 // The bytes of a circuit body before its gates, two strings, which an operator has no use for.
 const STRINGS: usize = 8;
 
-// The number of a body that is no circuit with two strings in the book, 0 where it is one.
-fn fault(book: &[u8], e: Entry) -> u8
-    ensures { result ≡ 0 → (8 ≤ e.length) × (e.start + e.length ≤ length book.now) }
-{
-    if e.kind != 1 {
-        return NO_CIRCUIT;
+// The gates of a body, refused where it is no circuit with two strings in the book.
+fn gates_in(book: &[u8], e: Entry) -> Result<&[u8], Refusal> {
+    if e.kind != Kind::Circuit as u8 {
+        return Err(Refusal::BadContents);
     }
     if e.length < STRINGS {
-        return exact::BAD_BODY;
+        return Err(Refusal::BadBody);
     }
-    if book.len() < e.length {
-        return exact::BAD_CONTENTS;
+    if book.len() < e.length || book.len() - e.length < e.start {
+        return Err(Refusal::BadContents);
     }
-    if book.len() - e.length < e.start {
-        return exact::BAD_CONTENTS;
-    }
-    0
+    Ok(&book[e.start + STRINGS..e.start + e.length])
 }
 
-// The number of a circuit that is to be compared with a body that is at fault: its own comes first.
-fn beside(book: &[u8], e: Entry, number: u8) -> u8 {
-    let f = fault(book, e);
-    if f != 0 {
-        return f;
-    }
-    let own = operator_number::number(
-        contents::edition(book),
-        e.width,
-        &book[e.start + STRINGS..e.start + e.length],
-    );
-    if own != 0 {
-        return own;
-    }
-    number
+// Why a circuit cannot be compared with a body that is at fault: its own refusal comes first.
+fn beside(book: &[u8], e: Entry, fault: Refusal) -> Result<Option<Eighth>, Refusal> {
+    operator_number::test(contents::edition(book), e.width, gates_in(book, e)?)?;
+    Err(fault)
 }
 
 // What two circuits of a book are to each other.
-fn compared(book: &[u8], a: Entry, b: Entry) -> Aligned {
-    let f = fault(book, a);
-    if f != 0 {
-        return Aligned::Refused(f);
-    }
-    let g = fault(book, b);
-    if g != 0 {
-        return Aligned::Refused(beside(book, a, g));
-    }
+fn compared(book: &[u8], a: Entry, b: Entry) -> Result<Option<Eighth>, Refusal> {
+    let gates = gates_in(book, a)?;
     let edition = contents::edition(book);
-    operator::common_phase(
-        edition,
-        a.width,
-        &book[a.start + STRINGS..a.start + a.length],
-        edition,
-        b.width,
-        &book[b.start + STRINGS..b.start + b.length],
-    )
+    match gates_in(book, b) {
+        Ok(gates2) => operator::common_phase(edition, a.width, gates, edition, b.width, gates2),
+        Err(fault) => beside(book, a, fault),
+    }
 }
 
 // The line of a pair.
-fn show(out: &mut impl Write, j: usize, r: Aligned) -> io::Result<()> {
+fn show(out: &mut impl Write, j: usize, answer: Result<Option<Eighth>, Refusal>) -> io::Result<()> {
     output::number(out, j as u64)?;
-    match r {
-        Aligned::Refused(n) => {
+    match answer {
+        Err(refusal) => {
             out.write_all(b" refused ")?;
-            output::number(out, n as u64)?;
+            output::number(out, u8::from(refusal) as u64)?;
         }
-        Aligned::By(p) => {
+        Ok(Some(p)) => {
             out.write_all(b" same")?;
             if p.0 != 0 {
                 out.write_all(b" up to ")?;
                 output::number(out, p.0 as u64)?;
             }
         }
-        Aligned::Differ => {
+        Ok(None) => {
             out.write_all(b" differ")?;
         }
     }
@@ -101,7 +70,7 @@ fn pairs(out: &mut impl Write, book: &[u8]) -> io::Result<()> {
         }
         let a = contents::entry_at(book, 2 * j);
         if n == 2 * j + 1 {
-            return show(out, j, Aligned::Refused(beside(book, a, exact::NO_BODY)));
+            return show(out, j, beside(book, a, Refusal::NoBody));
         }
         show(
             out,
@@ -123,32 +92,11 @@ fn compare(out: &mut impl Write, book: &[u8]) -> io::Result<()> {
     pairs(out, book)
 }
 
-// A message on standard error; where it cannot be written nobody can be told.
-fn tell(errors: &mut impl Write, message: &[u8]) {
-    let _ = errors.write_all(message);
-}
-
-// Someone who starts the program at a terminal learns what it waits for.
-fn hint(input: &impl IsTerminal, errors: &mut impl Write) {
-    if input.is_terminal() {
-        tell(
-            errors,
-            b"same: reads a book from standard input (same < FILE)\n",
-        );
-    }
-}
-
 // That a book has more than 60,000 bytes is all that matters of a longer one.
 fn main(rt: HostRuntime) -> io::Result<()> {
-    let mut input = rt.stdin();
-    let mut errors = rt.stderr();
-    hint(&input, &mut errors);
     let mut area = [0u8; 60001];
-    let read = input::fill(&mut input, &mut area);
-    let n = read.bytes;
-    if read.whole {
-        return compare(&mut rt.stdout(), &area[..n]);
+    match program::book("same", &mut rt.stdin(), &mut rt.stderr(), &mut area) {
+        Some(book) => compare(&mut rt.stdout(), book),
+        None => Ok(()),
     }
-    tell(&mut errors, b"same: standard input cannot be read\n");
-    Ok(())
 }

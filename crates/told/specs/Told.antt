@@ -1,17 +1,13 @@
 -- What stands behind the pointers that a call for C is lent, once it has told an amount, a chance, an answer or a body; n is the number that it answers, 0 for none.
-use Rattle.std.specs.Prelude.{◌≡◌, ℕ, ℤ, pos}
+use Rattle.std.specs.Prelude.{◌≡◌, ℕ, ℤ, pos, Result, Ok, Err}
 use Rattle.std.specs.Int.Count.{ones}
 use Rattle.exact.specs.declared.Amount.{Amount}
 use Rattle.exact.specs.declared.Amount.TheVariants.{Zero, Some}
-use Rattle.exact.specs.declared.Answer.{Answer}
-use Rattle.exact.specs.declared.Answer.TheVariants.{Refused as NotGiven, Is}
-use Rattle.exact.specs.Answer.{number_of}
+use Rattle.exact.specs.declared.Refusal.{Refusal}
+use Rattle.exact.specs.Code.{refusal_in}
 use Rattle.exact.specs.declared.Chance.{Chance}
 use Rattle.exact.specs.declared.Chance.TheVariants.{Never, OneOver}
-use Rattle.exact.specs.declared.Told.{Told as ChanceAnswer}
-use Rattle.exact.specs.declared.Told.TheVariants.{Refused as NotTold, Is as IsChance}
 use Rattle.exact.specs.Chance.{chance_amount}
-use Rattle.exact.specs.Chance.{number_of as chance_number}
 use Rattle.state.specs.Entry.{ties}
 use Rattle.book_bodies.specs.declared.Said.TheVariants.{Refused, Circuit, Record, Whole}
 use Rattle.book_bodies.specs.declared.Body.{Body}
@@ -48,10 +44,10 @@ told a = behind (zero_of a) (power_told a) (phase_told a)
 
 -- ---- an answer
 -- an answer told: refused by its number, with the three as they were; or its amount
-pub record AnswerTold (a : Answer) (before : Told) (n : ℕ) (after : Told) : Type 0 where
-  pub number : n ≡ number_of a
-  pub kept : (k : ℕ) → a ≡ NotGiven k → after ≡ before
-  pub given : (m : Amount) → a ≡ Is m → after ≡ told m
+pub record AnswerTold (a : Result Amount Refusal) (before : Told) (n : ℕ) (after : Told) : Type 0 where
+  pub number : n ≡ refusal_in a
+  pub kept : (k : Refusal) → a ≡ Err k → after ≡ before
+  pub given : (m : Amount) → a ≡ Ok m → after ≡ told m
 
 -- ---- a chance as two numbers
 -- what stands behind the two pointers
@@ -68,10 +64,10 @@ told_chance Never = odds 1 0
 told_chance (OneOver e) = odds 0 e
 
 -- a record's answer told: refused by its number, with the two as they were; or its chance
-pub record ChanceTold (a : ChanceAnswer) (before : Odds) (n : ℕ) (after : Odds) : Type 0 where
-  pub number : n ≡ chance_number a
-  pub kept : (k : ℕ) → a ≡ NotTold k → after ≡ before
-  pub given : (c : Chance) → a ≡ IsChance c → after ≡ told_chance c
+pub record ChanceTold (a : Result Chance Refusal) (before : Odds) (n : ℕ) (after : Odds) : Type 0 where
+  pub number : n ≡ refusal_in a
+  pub kept : (k : Refusal) → a ≡ Err k → after ≡ before
+  pub given : (c : Chance) → a ≡ Ok c → after ≡ told_chance c
 
 -- ---- a body of a book
 -- what stands behind the six pointers

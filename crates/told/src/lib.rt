@@ -8,7 +8,7 @@ ghost use Rattle.told.specs.Told.{behind, told, AnswerTold, odds, ChanceTold, si
 ghost use Rattle.told.specs.Inner.Power.{minus_twice};
 
 use book_bodies::{Body, Said};
-use exact::{Amount, Answer, Chance, Eighth, Power, Told};
+use exact::{Amount, Chance, Eighth, Power, Refusal};
 
 // An amount as three numbers: zero or not, power, phase.
 pub fn tell(a: Amount, zero: &mut u8, power: &mut i32, phase: &mut u8)
@@ -20,23 +20,21 @@ pub fn tell(a: Amount, zero: &mut u8, power: &mut i32, phase: &mut u8)
             *power = 0;
             *phase = 0;
         }
-        Amount::Some(s, c) => {
-            let p = s.0;
-            let q = c.0;
+        Amount::Some(Power(s), Eighth(c)) => {
             *zero = 0;
-            *power = p;
-            *phase = q;
+            *power = s;
+            *phase = c;
         }
     }
 }
 
 // An answer told: its number, and its amount behind the pointers where it is not refused.
-pub fn answer(a: Answer, zero: &mut u8, power: &mut i32, phase: &mut u8) -> u8
+pub fn answer(a: Result<Amount, Refusal>, zero: &mut u8, power: &mut i32, phase: &mut u8) -> u8
     ensures { AnswerTold a (behind zero.old power.old phase.old) result (behind zero.new power.new phase.new) }
 {
     match a {
-        Answer::Refused(n) => n,
-        Answer::Is(m) => {
+        Err(refusal) => u8::from(refusal),
+        Ok(m) => {
             tell(m, zero, power, phase);
             0
         }
@@ -63,23 +61,21 @@ fn amount_of(c: Chance) -> Amount
 }
 
 // A record's answer told: its number, and its chance behind the pointers where it is not refused.
-pub fn chance(a: Told, never: &mut u8, power: &mut u32) -> u8
+pub fn chance(a: Result<Chance, Refusal>, never: &mut u8, power: &mut u32) -> u8
     ensures { ChanceTold a (odds never.old power.old) result (odds never.new power.new) }
 {
     match a {
-        Told::Refused(n) => n,
-        Told::Is(c) => match c {
-            Chance::Never => {
-                *never = 1;
-                *power = 0;
-                0
-            }
-            Chance::OneOver(e) => {
-                *never = 0;
-                *power = e;
-                0
-            }
-        },
+        Err(refusal) => u8::from(refusal),
+        Ok(Chance::Never) => {
+            *never = 1;
+            *power = 0;
+            0
+        }
+        Ok(Chance::OneOver(e)) => {
+            *never = 0;
+            *power = e;
+            0
+        }
     }
 }
 

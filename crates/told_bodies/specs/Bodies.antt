@@ -1,7 +1,8 @@
 -- What the calls for C on a circuit and on a table body answer and leave behind the pointers that they are lent; n is the number that they answer, 0 for none.
-use Rattle.std.specs.Prelude.{List, ◌≢◌, ◌≡◌, ℕ}
+use Rattle.std.specs.Prelude.{List, ◌≢◌, ◌≡◌, ℕ, Result}
 use Rattle.exact.specs.Refusal.{accepted}
-use Rattle.exact.specs.declared.Answer.{Answer}
+use Rattle.exact.specs.declared.Amount.{Amount}
+use Rattle.exact.specs.declared.Refusal.{Refusal}
 use Rattle.state.specs.declared.State.{State}
 use Rattle.call_answers.specs.Answers.{EntryAt}
 use Rattle.circuit.specs.Amplitude.{Amplitude}
@@ -12,13 +13,13 @@ use Rattle.told.specs.Told.{Told, AnswerTold}
 
 -- the amplitude of a circuit of an edition
 pub record AmplitudeTold (edition width input output : ℕ) (bs : List ℕ) (before : Told) (n : ℕ) (after : Told) : Type 0 where
-  pub answer : Answer
+  pub answer : Result Amount Refusal
   pub is : Amplitude edition width input output bs answer
   pub tells : AnswerTold answer before n after
 
 -- an entry of a table
 pub record EntryTells (t : State) (x : ℕ) (before : Told) (n : ℕ) (after : Told) : Type 0 where
-  pub answer : Answer
+  pub answer : Result Amount Refusal
   pub is : EntryAt t x answer
   pub tells : AnswerTold answer before n after
 

@@ -1,13 +1,11 @@
 -- What C is told of a fault: its body, item, byte and cause, each as a number.
-use Rattle.std.specs.Prelude.{List, ◌≡◌, ℕ}
+use Rattle.std.specs.Prelude.{List, ◌≡◌, ℕ, Option, Some, None, Ok, Err}
 use Rattle.cause.specs.declared.Cause.{Cause}
-use Rattle.cause.specs.declared.Cause.TheVariants.{Sound, Short, Long, Letters, Edition, Count, Contents, Kind, Start, End, LastEnd, NoBody, Strings, Threes, Many, Wires, Input, Output, Code, Wire, SecondWire, SameWire, SecondByte, Outcome, NoCount, Stray, Deep, Unopened, Empty, Unclosed, Expansion, TableWidth, Length, ManyTies, ZeroMark, Phase, PowerOut, Turn, Row, Mask, Side, NotNormal}
-use Rattle.cause_book.specs.declared.Reason.{Reason}
-use Rattle.cause_book.specs.Why.{BookWhy, BodyWhy}
+use Rattle.cause.specs.declared.Cause.TheVariants.{Short, Long, Letters, Edition, Count, Contents, Kind, Start, End, LastEnd, NoBody, Strings, Threes, Many, Wires, Input, Output, Code, Wire, SecondWire, SameWire, SecondByte, Outcome, NoCount, Stray, Deep, Unopened, Empty, Unclosed, Expansion, TableWidth, Length, ManyTies, ZeroMark, Phase, PowerOut, Turn, Row, Mask, Side, NotNormal}
+use Rattle.cause_book.specs.Why.{Why, why_number, BookWhy, BodyWhy}
 
 -- the causes by their numbers, in the order in which they are listed
-unfoldable pub code_of : Cause → ℕ
-code_of Sound = 0
+abbrev pub code_of : Cause → ℕ
 code_of Short = 1
 code_of Long = 2
 code_of Letters = 3
@@ -60,19 +58,32 @@ pub record Four : Type 0 where
 abbrev pub four : ℕ → ℕ → ℕ → ℕ → Four
 four b i p k = record { body = b; item = i; byte = p; cause = k }
 
+-- "count k (0..16)": no body has the number 16, which stands for none
+abbrev pub no_one : ℕ
+no_one = 16
+
+abbrev pub body_told : Option ℕ → ℕ
+body_told None = no_one
+body_told (Some j) = j
+
+-- what stands behind the pointers: without a fault the body that was asked for, or none, and zeros
+abbrev pub four_of : ℕ → Why → Four
+four_of asked (Ok u) = four asked 0 0 0
+four_of asked (Err r) = four (body_told r.body) r.fault.item r.fault.byte (code_of r.fault.cause)
+
 -- n is the number of a fault, and f stands behind the pointers
-pub record WhyTold (w : Reason) (n : ℕ) (f : Four) : Type 0 where
-  pub number : n ≡ w.number
-  pub told : f ≡ four w.body w.item w.byte (code_of w.cause)
+pub record WhyTold (asked : ℕ) (w : Why) (n : ℕ) (f : Four) : Type 0 where
+  pub number : n ≡ why_number w
+  pub told : f ≡ four_of asked w
 
 -- why a book is refused, told
 pub record BookTold (bs : List ℕ) (n : ℕ) (f : Four) : Type 0 where
-  pub why : Reason
+  pub why : Why
   pub is : BookWhy bs why
-  pub told : WhyTold why n f
+  pub told : WhyTold no_one why n f
 
 -- why body j of a book is refused, told
 pub record BodyTold (bs : List ℕ) (j n : ℕ) (f : Four) : Type 0 where
-  pub why : Reason
+  pub why : Why
   pub is : BodyWhy bs j why
-  pub told : WhyTold why n f
+  pub told : WhyTold j why n f

@@ -6,41 +6,35 @@ ghost use Rattle.cliffords.specs.Closing.{product_number, inverse_number, closin
 ghost use Rattle.told_cliffords.specs.Told.{ElementTold};
 ghost use Rattle.told_cliffords.specs.Inner.Tells.{Tells};
 
-use cliffords::Element;
+use exact::Refusal;
 
 // An answer told: its number, and its element behind the pointer where it is not refused.
-fn tell(e: Element, element: &mut u8) -> u8
-    ensures { Tells e element.old result element.new }
+fn tell(answer: Result<u8, Refusal>, element: &mut u8) -> u8
+    ensures { Tells answer element.old result element.new }
 {
-    match e {
-        Element::Refused(n) => n,
-        Element::Is(k) => {
-            *element = k;
-            0
-        }
+    if let Ok(k) = answer {
+        *element = k;
     }
+    exact::number_of(&answer)
 }
 
 // Element i, then element j.
 pub fn product(i: u8, j: u8, element: &mut u8) -> u8
     ensures { ElementTold (product_number i j) (IsProduct i j) element.old result element.new }
 {
-    let e = cliffords::product(i, j);
-    tell(e, element)
+    tell(cliffords::product(i, j), element)
 }
 
 // The element that undoes element i.
 pub fn inverse(i: u8, element: &mut u8) -> u8
     ensures { ElementTold (inverse_number i) (Undoes i) element.old result element.new }
 {
-    let e = cliffords::inverse(i);
-    tell(e, element)
+    tell(cliffords::inverse(i), element)
 }
 
 // The element that undoes the numbers, applied in order.
 pub fn closing(numbers: &[u8], element: &mut u8) -> u8
     ensures { ElementTold (closing_number numbers.now) (Closes numbers.now) element.old result element.new }
 {
-    let e = cliffords::closing(numbers);
-    tell(e, element)
+    tell(cliffords::closing(numbers), element)
 }

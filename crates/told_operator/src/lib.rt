@@ -3,23 +3,16 @@
 
 ghost use Rattle.told_operator.specs.Told.{TellsSame, TellsPhase, SameTold, PhaseTold};
 
-use operator::{Aligned, Compared};
+use exact::{Eighth, Refusal};
 
 // An answer told: its number, and where it is not refused 1 or 0 behind the pointer.
-fn tell_same(c: Compared, same: &mut u8) -> u8
-    ensures { TellsSame c same.old result same.new }
+fn tell_same(answer: Result<bool, Refusal>, same: &mut u8) -> u8
+    ensures { TellsSame answer same.old result same.new }
 {
-    match c {
-        Compared::Refused(n) => n,
-        Compared::Same => {
-            *same = 1;
-            0
-        }
-        Compared::Differ => {
-            *same = 0;
-            0
-        }
+    if let Ok(yes) = answer {
+        *same = u8::from(yes);
     }
+    exact::number_of(&answer)
 }
 
 // Whether two circuits of one width are the same operator.
@@ -34,22 +27,22 @@ pub fn same(
 ) -> u8
     ensures { SameTold edition width gates.now edition2 width2 gates2.now same.old result same.new }
 {
-    let c = operator::same(edition, width, gates, edition2, width2, gates2);
-    tell_same(c, same)
+    let answer = operator::same(edition, width, gates, edition2, width2, gates2);
+    tell_same(answer, same)
 }
 
 // The same beside the eighth turns, 0 where there are none.
-fn tell_phase(a: Aligned, same: &mut u8, phase: &mut u8) -> u8
-    ensures { TellsPhase a same.old phase.old result same.new phase.new }
+fn tell_phase(answer: Result<Option<Eighth>, Refusal>, same: &mut u8, phase: &mut u8) -> u8
+    ensures { TellsPhase answer same.old phase.old result same.new phase.new }
 {
-    match a {
-        Aligned::Refused(n) => n,
-        Aligned::By(p) => {
+    match answer {
+        Err(refusal) => u8::from(refusal),
+        Ok(Some(p)) => {
             *same = 1;
             *phase = p.0;
             0
         }
-        Aligned::Differ => {
+        Ok(None) => {
             *same = 0;
             *phase = 0;
             0
@@ -70,6 +63,6 @@ pub fn common_phase(
 ) -> u8
     ensures { PhaseTold edition width gates.now edition2 width2 gates2.now same.old phase.old result same.new phase.new }
 {
-    let a = operator::common_phase(edition, width, gates, edition2, width2, gates2);
-    tell_phase(a, same, phase)
+    let answer = operator::common_phase(edition, width, gates, edition2, width2, gates2);
+    tell_phase(answer, same, phase)
 }

@@ -3,20 +3,29 @@
 
 ghost use Rattle.told_paths.specs.Told.{five, SumTold, PathsTold};
 
+use exact::Refusal;
 use path_sum::PathSum;
 
 // A path sum told: its number, and behind the pointers the four numbers and the power where it is not refused.
-fn tell(r: PathSum, c0: &mut i32, c1: &mut i32, c2: &mut i32, c3: &mut i32, power: &mut i32) -> u8
+fn tell(
+    r: Result<PathSum, Refusal>,
+    c0: &mut i32,
+    c1: &mut i32,
+    c2: &mut i32,
+    c3: &mut i32,
+    power: &mut i32,
+) -> u8
     ensures { SumTold r (five c0.old c1.old c2.old c3.old power.old) result (five c0.new c1.new c2.new c3.new power.new) }
 {
     match r {
-        PathSum::Refused(n) => n,
-        PathSum::Is(f, s) => {
+        Err(refusal) => u8::from(refusal),
+        Ok(s) => {
+            let f = s.four;
             let a0 = f.c0;
             let a1 = f.c1;
             let a2 = f.c2;
             let a3 = f.c3;
-            let p = s.0;
+            let p = s.power.0;
             *c0 = a0;
             *c1 = a1;
             *c2 = a2;

@@ -1,10 +1,9 @@
 -- What the calls for C promise that ask a table in lent bytes; n is the number that they answer, 0 for none.
-use Rattle.std.specs.Prelude.{List, ◌≢◌, ◌≡◌, ℕ}
+use Rattle.std.specs.Prelude.{List, ◌≢◌, ◌≡◌, ℕ, None, Some, Result, Ok}
 use Rattle.exact.specs.Refusal.{accepted}
-use Rattle.exact.specs.declared.Answer.{Answer}
-use Rattle.call_answers.specs.declared.Counted.{Counted}
-use Rattle.call_answers.specs.declared.Counted.TheVariants.{None, Exponent}
-use Rattle.call_answers.specs.Counted.{counted_number}
+use Rattle.exact.specs.declared.Amount.{Amount}
+use Rattle.exact.specs.declared.Refusal.{Refusal}
+use Rattle.call_answers.specs.Counted.{Counted, counted_number}
 use Rattle.table.specs.declared.Table.{Table}
 use Rattle.table.specs.Answers.{EntryAt, SpreadOf}
 use Rattle.image_read.specs.declared.Reading.{Reading}
@@ -14,7 +13,7 @@ use Rattle.told_tables.specs.Called.{held}
 
 -- an entry of a table
 pub record EntryTells (t : Table) (x : ℕ) (before : Told) (n : ℕ) (after : Told) : Type 0 where
-  pub answer : Answer
+  pub answer : Result Amount Refusal
   pub is : EntryAt t x answer
   pub tells : AnswerTold answer before n after
 
@@ -37,8 +36,8 @@ spreading z k = record { none = z; e = k }
 pub record SpreadShown (c : Counted) (before : Spreading) (n : ℕ) (after : Spreading) : Type 0 where
   pub number : n ≡ counted_number c
   pub kept : n ≢ accepted → after ≡ before
-  pub nothing : c ≡ None → after ≡ spreading 1 0
-  pub exponent : (k : ℕ) → c ≡ Exponent k → after ≡ spreading 0 k
+  pub nothing : c ≡ Ok None → after ≡ spreading 1 0
+  pub exponent : (k : ℕ) → c ≡ Ok (Some k) → after ≡ spreading 0 k
 
 pub record SpreadTells (t : Table) (before : Spreading) (n : ℕ) (after : Spreading) : Type 0 where
   pub answer : Counted

@@ -4,8 +4,7 @@
 ghost use Rattle.told.specs.Told.{behind};
 ghost use Rattle.told_tables_asks.specs.Asks.{EntryAsked, spreading, SpreadShown, SpreadAsked};
 
-use call_answers::Counted;
-use table::Table;
+use exact::Refusal;
 
 // The entry at an assignment of the live bits.
 pub fn entry(area: &[u8], x: u64, zero: &mut u8, power: &mut i32, phase: &mut u8) -> u8
@@ -16,28 +15,23 @@ pub fn entry(area: &[u8], x: u64, zero: &mut u8, power: &mut i32, phase: &mut u8
     if refusal != 0 {
         return refusal;
     }
-    let s = r.state;
-    let ls = r.labels;
-    let t = Table {
-        state: s,
-        labels: ls,
-    };
+    let t = told_tables::held(r);
     let a = t.entry(x);
     told::answer(a, zero, power, phase)
 }
 
 // What Spread answered, behind two pointers.
-fn tell_spread(c: Counted, none: &mut u8, e: &mut usize) -> u8
+fn tell_spread(c: Result<Option<usize>, Refusal>, none: &mut u8, e: &mut usize) -> u8
     ensures { SpreadShown c (spreading none.old e.old) result (spreading none.new e.new) }
 {
     match c {
-        Counted::Refused(n) => n,
-        Counted::None => {
+        Err(refusal) => u8::from(refusal),
+        Ok(None) => {
             *none = 1;
             *e = 0;
             0
         }
-        Counted::Exponent(k) => {
+        Ok(Some(k)) => {
             *none = 0;
             *e = k;
             0
@@ -54,12 +48,7 @@ pub fn spread(area: &[u8], none: &mut u8, e: &mut usize) -> u8
     if refusal != 0 {
         return refusal;
     }
-    let s = r.state;
-    let ls = r.labels;
-    let t = Table {
-        state: s,
-        labels: ls,
-    };
+    let t = told_tables::held(r);
     let c = t.spread();
     tell_spread(c, none, e)
 }

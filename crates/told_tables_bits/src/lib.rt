@@ -28,12 +28,7 @@ pub fn new_bit(area: &mut [u8], l: u16, slot: &mut usize) -> u8
     if refusal != 0 {
         return refusal;
     }
-    let s = r.state;
-    let ls = r.labels;
-    let t = Table {
-        state: s,
-        labels: ls,
-    };
+    let t = told_tables::held(r);
     let c = t.new_bit(Label(l));
     let n = c.refusal;
     if n != 0 {
@@ -68,12 +63,7 @@ pub fn sum(area: &mut [u8], v: usize, rule: &mut u8) -> u8
     if refusal != 0 {
         return refusal;
     }
-    let s = r.state;
-    let ls = r.labels;
-    let t = Table {
-        state: s,
-        labels: ls,
-    };
+    let t = told_tables::held(r);
     let c = t.sum(Slot(v));
     let n = c.refusal;
     if n != 0 {

@@ -1,14 +1,15 @@
 -- What the calls for C answer and leave behind the pointers that they are lent, call by call; n is the number that they answer, 0 for none.
-use Rattle.std.specs.Prelude.{List, ℕ}
+use Rattle.std.specs.Prelude.{List, ℕ, Result}
 use Rattle.book_bodies.specs.declared.Body.{Body}
 use Rattle.book.specs.Read.{ReadsBody, ReadsStrict}
-use Rattle.exact.specs.declared.Told.{Told as ChanceAnswer}
+use Rattle.exact.specs.declared.Chance.{Chance}
+use Rattle.exact.specs.declared.Refusal.{Refusal}
 use Rattle.record.specs.Chanced.{Chanced}
 use Rattle.told.specs.Told.{Odds, ChanceTold, Shown, BodyTold}
 
 -- the chance of a record
 pub record RecordTold (width input : ℕ) (bs : List ℕ) (before : Odds) (n : ℕ) (after : Odds) : Type 0 where
-  pub answer : ChanceAnswer
+  pub answer : Result Chance Refusal
   pub is : Chanced width input bs answer
   pub tells : ChanceTold answer before n after
 

@@ -2,7 +2,7 @@
 // the others lie below 0; or the number that refuses it. The script tests/try_compare.py writes the circuits, and from products of their matrices what must be printed.
 #![tactic(auto)]
 
-use exact::{Amount, Answer};
+use exact::{Amount, Refusal};
 use std::io;
 use std::io::Write;
 
@@ -30,10 +30,10 @@ fn below(power: i32) -> u64 {
 }
 
 // How far the power of an answer lies below 0, of zero `NONE`; its phase is printed.
-fn shown(out: &mut impl Write, a: Answer) -> io::Result<u64> {
+fn shown(out: &mut impl Write, a: Result<Amount, Refusal>) -> io::Result<u64> {
     match a {
-        Answer::Refused(_) => Ok(NONE),
-        Answer::Is(amount) => match amount {
+        Err(_) => Ok(NONE),
+        Ok(amount) => match amount {
             Amount::Zero => {
                 out.write_all(b".")?;
                 Ok(NONE)
@@ -89,11 +89,11 @@ fn line(out: &mut impl Write, edition: u8, bytes: &[u8], end: usize) -> io::Resu
     }
     let width = fields::read_u8(bytes, 0);
     let input = fields::read_u8(bytes, 1) as u32;
-    let n = circuit::number(edition, width, input, 0, &bytes[HEAD..end]);
+    let tested = circuit::test(edition, width, input, 0, &bytes[HEAD..end]);
     output::number(out, edition as u64)?;
-    if n != 0 {
+    if let Err(refusal) = tested {
         out.write_all(b" refused ")?;
-        output::number(out, n as u64)?;
+        output::number(out, u8::from(refusal) as u64)?;
         return out.write_all(b"\n");
     }
     out.write_all(b" ")?;

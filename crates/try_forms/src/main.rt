@@ -15,41 +15,29 @@ use ties::Ties;
 // More records than any input has.
 const MOST: u64 = 100000;
 
-// A number, and the space behind it.
-fn number(out: &mut impl Write, n: u64) -> io::Result<()> {
-    output::number(out, n)?;
-    out.write_all(b" ")
-}
-
-// A digest's lower half, and the end of the line.
-fn last(out: &mut impl Write, h: u64) -> io::Result<()> {
-    output::hexadecimal(out, h % 4294967296, 8)?;
-    out.write_all(b"\n")
-}
-
 // The line of a form: its phase and phases, and unless it is brief its shape.
 fn show_form(out: &mut impl Write, f: Form, brief: u8, n: u64) -> io::Result<()> {
     let c = f.phase;
     let h = on_form::phases(f, n);
-    number(out, c.0 as u64)?;
+    output::spaced(out, c.0 as u64)?;
     if brief == 1 {
-        return last(out, h);
+        return output::digest(out, h);
     }
-    number(out, on_form::proper(f))?;
-    last(out, on_form::slots(h, f))
+    output::spaced(out, on_form::proper(f))?;
+    output::digest(out, on_form::slots(h, f))
 }
 
 // The line of ties.
 fn show_ties(out: &mut impl Write, t: Ties, kind: u8) -> io::Result<()> {
-    number(out, t.count as u64)?;
-    number(out, on_ties::reduced(t))?;
-    last(out, on_ties::places(on_ties::holds(t, kind), t))
+    output::spaced(out, t.count as u64)?;
+    output::spaced(out, on_ties::reduced(t))?;
+    output::digest(out, on_ties::places(on_ties::holds(t, kind), t))
 }
 
 // The ties after a record, or the line of a tie that they reduce.
 fn ties_after(out: &mut impl Write, t: Ties, r: Record) -> io::Result<Ties> {
     if r.code == 23 {
-        last(out, on_ties::reduce(t, r))?;
+        output::digest(out, on_ties::reduce(t, r))?;
         return Ok(t);
     }
     let after = on_ties::moved(t, r);

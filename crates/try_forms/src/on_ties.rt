@@ -50,8 +50,8 @@ pub(crate) fn places(before: u64, t: Ties) -> u64 {
     let mut h = before;
     for j in 0..68usize {
         h = tie(h, t.tie_at(j));
-        h = try_draw::word(h, ties_search::lead_index(t, Slot(j)) as u64);
-        h = try_draw::word(h, ties_search::last_with(t, Slot(j)) as u64);
+        h = try_draw::word(h, ties_search::lead_index(t, Slot(j)).unwrap_or(64) as u64);
+        h = try_draw::word(h, ties_search::last_with(t, Slot(j)).unwrap_or(64) as u64);
     }
     h
 }

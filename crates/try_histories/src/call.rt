@@ -25,8 +25,8 @@ pub(crate) fn made(out: &mut impl Write, r: Record, t: Table, other: Table) -> i
     match code {
         0 => {
             let o = t.new_bit(Label((r.word % 65536) as u16));
-            print::number(out, o.refusal as u64)?;
-            print::number(out, o.slot.0 as u64)?;
+            output::spaced(out, o.refusal as u64)?;
+            output::spaced(out, o.slot.0 as u64)?;
             Ok(o.table)
         }
         4 => {
@@ -38,7 +38,7 @@ pub(crate) fn made(out: &mut impl Write, r: Record, t: Table, other: Table) -> i
             } else {
                 Rule::None
             };
-            print::number(out, c.refusal as u64)?;
+            output::spaced(out, c.refusal as u64)?;
             print::rule(out, rule)?;
             print::rule(out, by_fields)?;
             Ok(c.table)
@@ -46,13 +46,13 @@ pub(crate) fn made(out: &mut impl Write, r: Record, t: Table, other: Table) -> i
         6 => {
             let j = t.join(other);
             let places = j.places;
-            print::number(out, j.refusal as u64)?;
-            print::number(out, digest::places(places) % 4294967296)?;
+            output::spaced(out, j.refusal as u64)?;
+            output::spaced(out, digest::places(places) % 4294967296)?;
             Ok(j.table)
         }
         _ => {
             let c = changed(r, t);
-            print::number(out, c.refusal as u64)?;
+            output::spaced(out, c.refusal as u64)?;
             Ok(c.table)
         }
     }

@@ -1,5 +1,5 @@
 // Digests: numbers that a difference in what a table answers would change.
-use exact::{Amount, Answer, Slot};
+use exact::{Amount, Slot};
 use labels::Labels;
 use state::State;
 use table::Table;
@@ -20,8 +20,8 @@ fn amount(h: u64, a: Amount) -> u64 {
 // The entry at `x` taken into a digest: the number that refuses it, or what both calls answer.
 pub(crate) fn entry(h: u64, t: Table, x: u64) -> u64 {
     match t.entry(x) {
-        Answer::Refused(n) => try_draw::word(h, n as u64),
-        Answer::Is(a) => amount(amount(h, a), t.amount_at(x)),
+        Err(refusal) => try_draw::word(h, u8::from(refusal) as u64),
+        Ok(a) => amount(amount(h, a), t.amount_at(x)),
     }
 }
 

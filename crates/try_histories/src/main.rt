@@ -35,11 +35,11 @@ fn show(out: &mut impl Write, before: Table, t: Table, look: u64, n: u64) -> io:
     let kept = digest::fields(s) == digest::fields(after)
         && digest::labels(before.labels) == digest::labels(t.labels);
     print::spread(out, spread)?;
-    print::number(out, if kept { 1 } else { 0 })?;
-    print::number(out, tidy(t))?;
-    print::number(out, digest::labels(t.labels) % 4294967296)?;
+    output::spaced(out, if kept { 1 } else { 0 })?;
+    output::spaced(out, tidy(t))?;
+    output::spaced(out, digest::labels(t.labels) % 4294967296)?;
     let h = try_draw::word(0, after.live);
-    print::last(out, digest::entries(h, t, look, n))
+    output::digest(out, digest::entries(h, t, look, n))
 }
 
 // The table after record `n` on it, with a second table beside it.
@@ -59,7 +59,7 @@ fn step(
             Ok(after)
         }
         7 => {
-            print::last(out, digest::entry(0, t, r.word))?;
+            output::digest(out, digest::entry(0, t, r.word))?;
             Ok(t)
         }
         8 => Ok(other),

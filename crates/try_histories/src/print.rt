@@ -1,24 +1,18 @@
 // The parts of a line.
-use call_answers::Counted;
+use exact::Refusal;
 use state::Rule;
 use std::io;
 use std::io::Write;
 
-// A number, and the space behind it.
-pub(crate) fn number(out: &mut impl Write, n: u64) -> io::Result<()> {
-    output::number(out, n)?;
-    out.write_all(b" ")
-}
-
 // A spread: the number that refused it, the word for none, or the exponent.
-pub(crate) fn spread(out: &mut impl Write, s: Counted) -> io::Result<()> {
+pub(crate) fn spread(out: &mut impl Write, s: Result<Option<usize>, Refusal>) -> io::Result<()> {
     match s {
-        Counted::Refused(n) => {
+        Err(refusal) => {
             out.write_all(b"refused ")?;
-            number(out, n as u64)
+            output::spaced(out, u8::from(refusal) as u64)
         }
-        Counted::None => out.write_all(b"none "),
-        Counted::Exponent(e) => number(out, e as u64),
+        Ok(None) => out.write_all(b"none "),
+        Ok(Some(e)) => output::spaced(out, e as u64),
     }
 }
 
@@ -32,10 +26,4 @@ pub(crate) fn rule(out: &mut impl Write, r: Rule) -> io::Result<()> {
         Rule::Free => out.write_all(b"free "),
         Rule::Vanished => out.write_all(b"vanished "),
     }
-}
-
-// A digest's lower half, and the end of the line.
-pub(crate) fn last(out: &mut impl Write, h: u64) -> io::Result<()> {
-    output::hexadecimal(out, h % 4294967296, 8)?;
-    out.write_all(b"\n")
 }

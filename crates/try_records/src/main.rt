@@ -2,7 +2,7 @@
 // tests/try_records.py writes the records, and from plain vectors in whole numbers what must be printed.
 #![tactic(auto)]
 
-use exact::{Chance, Told};
+use exact::{Chance, Refusal};
 use std::io;
 use std::io::Write;
 
@@ -28,10 +28,10 @@ fn power_of(c: Chance) -> u64 {
 }
 
 // An answer as a number.
-fn number_of(t: Told) -> u64 {
-    match t {
-        Told::Refused(k) => REFUSED + k as u64,
-        Told::Is(c) => power_of(c),
+fn number_of(answer: Result<Chance, Refusal>) -> u64 {
+    match answer {
+        Err(refusal) => REFUSED + u8::from(refusal) as u64,
+        Ok(c) => power_of(c),
     }
 }
 

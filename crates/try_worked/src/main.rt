@@ -1,9 +1,8 @@
 // The cases of document 01 that are worked by hand, run by the code: a line for each, in that paper's order, with those of both editions, of repeated blocks and of elements by their words, then the spreads of request A1, the cases of request A6 and the turns of request A2. The expected lines are worked by hand.
 #![tactic(auto)]
 
-use call_answers::Counted;
 use doubles::Doubles;
-use exact::{Amount, Answer, Eighth, Label, Power, Quarter, Slot};
+use exact::{Amount, Eighth, Label, Power, Quarter, Refusal, Slot};
 use state::Rule;
 use std::io;
 use std::io::Write;
@@ -27,27 +26,32 @@ fn show_amount(out: &mut impl Write, a: Amount) -> io::Result<()> {
     Ok(())
 }
 
-// A line: the case, and its answer.
-fn show(out: &mut impl Write, name: &[u8], a: Answer) -> io::Result<()> {
+// A line: the case, and its answer, or the number that refuses it.
+fn show(out: &mut impl Write, name: &[u8], a: Result<Amount, u8>) -> io::Result<()> {
     out.write_all(name)?;
     out.write_all(b": ")?;
     match a {
-        Answer::Refused(n) => {
+        Err(number) => {
             out.write_all(b"refused ")?;
-            output::number(out, n as u64)?;
+            output::number(out, number as u64)?;
         }
-        Answer::Is(amount) => show_amount(out, amount)?,
+        Ok(amount) => show_amount(out, amount)?,
     }
     out.write_all(b"\n")
 }
 
+// The amplitude of a circuit, or the number that refuses it.
+fn amplitude(edition: u8, width: u8, input: u32, output: u32, gates: &[u8]) -> Result<Amount, u8> {
+    circuit::amplitude(edition, width, input, output, gates).map_err(u8::from)
+}
+
 // The entry of what a sum left where every bit is 0, or its refusal; the case is dropped, since these lines show the entry alone.
-fn outcome(c: Summed) -> Answer {
+fn outcome(c: Summed) -> Result<Amount, u8> {
     if c.refusal != 0 {
-        return Answer::Refused(c.refusal);
+        return Err(c.refusal);
     }
     let t = c.table;
-    t.entry(0)
+    t.entry(0).map_err(u8::from)
 }
 
 // A table with one bit more, whose label is how many there were.
@@ -75,12 +79,12 @@ fn bit(power: i32, k: u8) -> Table {
 }
 
 // The same, summed.
-fn one_bit(power: i32, k: u8) -> Answer {
+fn one_bit(power: i32, k: u8) -> Result<Amount, u8> {
     outcome(bit(power, k).sum(Slot(0)))
 }
 
 // "Two bits with a sign, each quarter 1, sum both"
-fn two_bits() -> Answer {
+fn two_bits() -> Result<Amount, u8> {
     let t = signed(wider(wider(Table::fresh())), 0, 1);
     let c = turned(turned(t, 0, 1), 1, 1).sum(Slot(0));
     let s = c.table;
@@ -88,7 +92,7 @@ fn two_bits() -> Answer {
 }
 
 // "Three bits, all three signs, sum all"
-fn three_bits() -> Answer {
+fn three_bits() -> Result<Amount, u8> {
     let t = signed(wider(wider(wider(Table::fresh()))), 0, 1);
     let s = signed(signed(t, 0, 2), 1, 2);
     let a = s.sum(Slot(0));
@@ -132,71 +136,35 @@ fn half(out: &mut impl Write) -> io::Result<()> {
 // "H on 0, CX 0 1": the four outputs of 00.
 fn pair(out: &mut impl Write) -> io::Result<()> {
     let gates = b"\x01\x00\x00\x11\x00\x01";
-    show(
-        out,
-        b"H 0, CX 0 1: 00 to 00",
-        circuit::amplitude(1, 2, 0, 0, gates),
-    )?;
-    show(
-        out,
-        b"H 0, CX 0 1: 00 to 01",
-        circuit::amplitude(1, 2, 0, 1, gates),
-    )?;
-    show(
-        out,
-        b"H 0, CX 0 1: 00 to 10",
-        circuit::amplitude(1, 2, 0, 2, gates),
-    )?;
-    show(
-        out,
-        b"H 0, CX 0 1: 00 to 11",
-        circuit::amplitude(1, 2, 0, 3, gates),
-    )
+    show(out, b"H 0, CX 0 1: 00 to 00", amplitude(1, 2, 0, 0, gates))?;
+    show(out, b"H 0, CX 0 1: 00 to 01", amplitude(1, 2, 0, 1, gates))?;
+    show(out, b"H 0, CX 0 1: 00 to 10", amplitude(1, 2, 0, 2, gates))?;
+    show(out, b"H 0, CX 0 1: 00 to 11", amplitude(1, 2, 0, 3, gates))
 }
 
 // The circuits of one wire.
 fn one_wire(out: &mut impl Write) -> io::Result<()> {
-    show(
-        out,
-        b"no gates: 0 to 0",
-        circuit::amplitude(1, 1, 0, 0, b""),
-    )?;
-    show(
-        out,
-        b"no gates: 0 to 1",
-        circuit::amplitude(1, 1, 0, 1, b""),
-    )?;
-    show(
-        out,
-        b"H: 0 to 1",
-        circuit::amplitude(1, 1, 0, 1, b"\x01\x00\x00"),
-    )?;
+    show(out, b"no gates: 0 to 0", amplitude(1, 1, 0, 0, b""))?;
+    show(out, b"no gates: 0 to 1", amplitude(1, 1, 0, 1, b""))?;
+    show(out, b"H: 0 to 1", amplitude(1, 1, 0, 1, b"\x01\x00\x00"))?;
     show(
         out,
         b"H, H: 0 to 1",
-        circuit::amplitude(1, 1, 0, 1, b"\x01\x00\x00\x01\x00\x00"),
+        amplitude(1, 1, 0, 1, b"\x01\x00\x00\x01\x00\x00"),
     )?;
     show(
         out,
         b"H, S, H: 0 to 0",
-        circuit::amplitude(1, 1, 0, 0, b"\x01\x00\x00\x02\x00\x00\x01\x00\x00"),
+        amplitude(1, 1, 0, 0, b"\x01\x00\x00\x02\x00\x00\x01\x00\x00"),
     )?;
     let thrice = b"\x01\x00\x00\x02\x00\x00\x01\x00\x00\x02\x00\x00\x01\x00\x00\x02\x00\x00";
     show(
         out,
         b"H, S three times: 0 to 0",
-        circuit::amplitude(1, 1, 0, 0, thrice),
+        amplitude(1, 1, 0, 0, thrice),
     )?;
-    show(
-        out,
-        b"Y: 0 to 1",
-        circuit::amplitude(1, 1, 0, 1, b"\x06\x00\x00"),
-    )?;
-    show(
-        out,
-        b"Y: 1 to 0",
-        circuit::amplitude(1, 1, 1, 0, b"\x06\x00\x00"),
-    )
+    show(out, b"Y: 0 to 1", amplitude(1, 1, 0, 1, b"\x06\x00\x00"))?;
+    show(out, b"Y: 1 to 0", amplitude(1, 1, 1, 0, b"\x06\x00\x00"))
 }
 
 // Code 7 in both editions.
@@ -204,33 +172,25 @@ fn editions(out: &mut impl Write) -> io::Result<()> {
     show(
         out,
         b"SX, edition 1: 0 to 0",
-        circuit::amplitude(1, 1, 0, 0, b"\x07\x00\x00"),
+        amplitude(1, 1, 0, 0, b"\x07\x00\x00"),
     )?;
     show(
         out,
         b"SX, edition 1: 0 to 1",
-        circuit::amplitude(1, 1, 0, 1, b"\x07\x00\x00"),
+        amplitude(1, 1, 0, 1, b"\x07\x00\x00"),
     )?;
     show(
         out,
         b"SX, edition 2: 0 to 0",
-        circuit::amplitude(2, 1, 0, 0, b"\x07\x00\x00"),
+        amplitude(2, 1, 0, 0, b"\x07\x00\x00"),
     )?;
     show(
         out,
         b"SX, edition 2: 0 to 1",
-        circuit::amplitude(2, 1, 0, 1, b"\x07\x00\x00"),
+        amplitude(2, 1, 0, 1, b"\x07\x00\x00"),
     )?;
-    show(
-        out,
-        b"edition 0",
-        circuit::amplitude(0, 0, 0, 0, b"\x01\x00"),
-    )?;
-    show(
-        out,
-        b"edition 3",
-        circuit::amplitude(3, 0, 0, 0, b"\x01\x00"),
-    )
+    show(out, b"edition 0", amplitude(0, 0, 0, 0, b"\x01\x00"))?;
+    show(out, b"edition 3", amplitude(3, 0, 0, 0, b"\x01\x00"))
 }
 
 // Repeated blocks: what bodies of edition 2 mean.
@@ -239,93 +199,77 @@ fn blocks(out: &mut impl Write) -> io::Result<()> {
     show(
         out,
         b"three times (H, S): 0 to 0",
-        circuit::amplitude(2, 1, 0, 0, thrice),
+        amplitude(2, 1, 0, 0, thrice),
     )?;
     let often = b"\x40\xFF\x00\x05\x00\x00\x41\x00\x00";
-    show(
-        out,
-        b"255 times X: 0 to 1",
-        circuit::amplitude(2, 1, 0, 1, often),
-    )?;
+    show(out, b"255 times X: 0 to 1", amplitude(2, 1, 0, 1, often))?;
     let nested = b"\x40\x02\x00\x02\x00\x00\x40\x03\x00\x05\x00\x00\x41\x00\x00\x41\x00\x00";
     show(
         out,
         b"twice (S, three times X): 0 to 0",
-        circuit::amplitude(2, 1, 0, 0, nested),
+        amplitude(2, 1, 0, 0, nested),
     )?;
     show(
         out,
         b"twice (S, three times X): 1 to 1",
-        circuit::amplitude(2, 1, 1, 1, nested),
+        amplitude(2, 1, 1, 1, nested),
     )?;
     let deep =
         b"\x40\x01\x00\x40\x01\x00\x40\x01\x00\x40\x01\x00\x40\x01\x00\x40\x01\x00\x40\x01\x00\x40\x01\x00\x05\x00\x00\x41\x00\x00\x41\x00\x00\x41\x00\x00\x41\x00\x00\x41\x00\x00\x41\x00\x00\x41\x00\x00\x41\x00\x00";
     show(
         out,
         b"X in eight blocks: 0 to 1",
-        circuit::amplitude(2, 1, 0, 1, deep),
+        amplitude(2, 1, 0, 1, deep),
     )?;
     let most =
         b"\x40\xFF\x00\x05\x00\x00\x40\xFE\x00\x05\x00\x00\x41\x00\x00\x41\x00\x00\x40\xFF\x00\x05\x00\x00\x41\x00\x00\x40\xFF\x00\x05\x00\x00\x41\x00\x00\x05\x00\x00";
-    show(
-        out,
-        b"65,536 times X: 0 to 0",
-        circuit::amplitude(2, 1, 0, 0, most),
-    )
+    show(out, b"65,536 times X: 0 to 0", amplitude(2, 1, 0, 0, most))
 }
 
 // Blocks that are refused.
 fn bad_blocks(out: &mut impl Write) -> io::Result<()> {
     let deep =
         b"\x40\x01\x00\x40\x01\x00\x40\x01\x00\x40\x01\x00\x40\x01\x00\x40\x01\x00\x40\x01\x00\x40\x01\x00\x40\x01\x00\x05\x00\x00\x41\x00\x00\x41\x00\x00\x41\x00\x00\x41\x00\x00\x41\x00\x00\x41\x00\x00\x41\x00\x00\x41\x00\x00\x41\x00\x00";
-    show(
-        out,
-        b"X in nine blocks",
-        circuit::amplitude(2, 1, 0, 1, deep),
-    )?;
+    show(out, b"X in nine blocks", amplitude(2, 1, 0, 1, deep))?;
     let more =
         b"\x40\xFF\x00\x05\x00\x00\x40\xFE\x00\x05\x00\x00\x41\x00\x00\x41\x00\x00\x40\xFF\x00\x05\x00\x00\x41\x00\x00\x40\xFF\x00\x05\x00\x00\x41\x00\x00\x05\x00\x00\x05\x00\x00";
-    show(out, b"65,537 times X", circuit::amplitude(2, 1, 0, 0, more))?;
+    show(out, b"65,537 times X", amplitude(2, 1, 0, 0, more))?;
     show(
         out,
         b"a block unclosed",
-        circuit::amplitude(2, 1, 0, 0, b"\x40\x03\x00\x01\x00\x00"),
+        amplitude(2, 1, 0, 0, b"\x40\x03\x00\x01\x00\x00"),
     )?;
     show(
         out,
         b"a block unopened",
-        circuit::amplitude(2, 1, 0, 0, b"\x41\x00\x00"),
+        amplitude(2, 1, 0, 0, b"\x41\x00\x00"),
     )?;
     show(
         out,
         b"a block empty",
-        circuit::amplitude(2, 1, 0, 0, b"\x40\x03\x00\x41\x00\x00"),
+        amplitude(2, 1, 0, 0, b"\x40\x03\x00\x41\x00\x00"),
     )?;
     show(
         out,
         b"a block unopened, then code 9",
-        circuit::amplitude(2, 1, 0, 0, b"\x41\x00\x00\x09\x00\x00"),
+        amplitude(2, 1, 0, 0, b"\x41\x00\x00\x09\x00\x00"),
     )?;
     let none = b"\x40\x00\x00\x01\x00\x00\x41\x00\x00";
-    show(out, b"a count of 0", circuit::amplitude(2, 1, 0, 0, none))?;
+    show(out, b"a count of 0", amplitude(2, 1, 0, 0, none))?;
     let stray = b"\x40\x03\x01\x01\x00\x00\x41\x00\x00";
     show(
         out,
         b"an opening with a second byte",
-        circuit::amplitude(2, 1, 0, 0, stray),
+        amplitude(2, 1, 0, 0, stray),
     )?;
     let counted = b"\x40\x03\x00\x01\x00\x00\x41\x01\x00";
     show(
         out,
         b"a closing with a count",
-        circuit::amplitude(2, 1, 0, 0, counted),
+        amplitude(2, 1, 0, 0, counted),
     )?;
     let early = b"\x40\x03\x00\x01\x00\x00\x41\x00\x00";
-    show(
-        out,
-        b"a block in edition 1",
-        circuit::amplitude(1, 1, 0, 0, early),
-    )
+    show(out, b"a block in edition 1", amplitude(1, 1, 0, 0, early))
 }
 
 // Elements by their words: HSH, HSSH, HSSHSS, and nothing.
@@ -333,55 +277,51 @@ fn elements(out: &mut impl Write) -> io::Result<()> {
     show(
         out,
         b"code 38: 0 to 0",
-        circuit::amplitude(2, 1, 0, 0, b"\x26\x00\x00"),
+        amplitude(2, 1, 0, 0, b"\x26\x00\x00"),
     )?;
     show(
         out,
         b"code 44: 0 to 1",
-        circuit::amplitude(2, 1, 0, 1, b"\x2C\x00\x00"),
+        amplitude(2, 1, 0, 1, b"\x2C\x00\x00"),
     )?;
     show(
         out,
         b"code 55: 0 to 1",
-        circuit::amplitude(2, 1, 0, 1, b"\x37\x00\x00"),
+        amplitude(2, 1, 0, 1, b"\x37\x00\x00"),
     )?;
     show(
         out,
         b"code 32: 0 to 0",
-        circuit::amplitude(2, 1, 0, 0, b"\x20\x00\x00"),
+        amplitude(2, 1, 0, 0, b"\x20\x00\x00"),
     )?;
     let idle = b"\x40\x03\x00\x20\x00\x00\x41\x00\x00";
     show(
         out,
         b"three times code 32: 0 to 0",
-        circuit::amplitude(2, 1, 0, 0, idle),
+        amplitude(2, 1, 0, 0, idle),
     )?;
     let run = b"\x21\x00\x00\x22\x00\x00\x2B\x00\x00";
     show(
         out,
         b"codes 33 and 34, closed by 43: 0 to 0",
-        circuit::amplitude(2, 1, 0, 0, run),
+        amplitude(2, 1, 0, 0, run),
     )?;
     show(
         out,
         b"code 32 on no wire, with a second byte",
-        circuit::amplitude(2, 1, 0, 0, b"\x20\x01\x01"),
+        amplitude(2, 1, 0, 0, b"\x20\x01\x01"),
     )?;
     show(
         out,
         b"code 32 with a second byte",
-        circuit::amplitude(2, 1, 0, 0, b"\x20\x00\x01"),
+        amplitude(2, 1, 0, 0, b"\x20\x00\x01"),
     )?;
     show(
         out,
         b"code 32 in edition 1",
-        circuit::amplitude(1, 1, 0, 0, b"\x20\x00\x00"),
+        amplitude(1, 1, 0, 0, b"\x20\x00\x00"),
     )?;
-    show(
-        out,
-        b"code 56",
-        circuit::amplitude(2, 1, 0, 0, b"\x38\x00\x00"),
-    )
+    show(out, b"code 56", amplitude(2, 1, 0, 0, b"\x38\x00\x00"))
 }
 
 // A circuit for each number that refuses one.
@@ -389,55 +329,55 @@ fn refusals(out: &mut impl Write) -> io::Result<()> {
     show(
         out,
         b"two bytes of gates",
-        circuit::amplitude(1, 1, 0, 0, b"\x01\x00"),
+        amplitude(1, 1, 0, 0, b"\x01\x00"),
     )?;
-    show(out, b"width 0", circuit::amplitude(1, 0, 0, 0, b""))?;
-    show(out, b"width 32", circuit::amplitude(1, 32, 0, 0, b""))?;
+    show(out, b"width 0", amplitude(1, 0, 0, 0, b""))?;
+    show(out, b"width 32", amplitude(1, 32, 0, 0, b""))?;
     show(
         out,
         b"an input bit at the width",
-        circuit::amplitude(1, 1, 2, 0, b""),
+        amplitude(1, 1, 2, 0, b""),
     )?;
     show(
         out,
         b"an output bit at the width",
-        circuit::amplitude(1, 31, 0, 2147483648, b""),
+        amplitude(1, 31, 0, 2147483648, b""),
     )?;
-    show(
-        out,
-        b"code 8",
-        circuit::amplitude(1, 1, 0, 0, b"\x08\x00\x00"),
-    )?;
+    show(out, b"code 8", amplitude(1, 1, 0, 0, b"\x08\x00\x00"))?;
     show(
         out,
         b"H on wire 1 of 1",
-        circuit::amplitude(1, 1, 0, 0, b"\x01\x01\x00"),
+        amplitude(1, 1, 0, 0, b"\x01\x01\x00"),
     )?;
     show(
         out,
         b"H with a second byte",
-        circuit::amplitude(1, 1, 0, 0, b"\x01\x00\x01"),
+        amplitude(1, 1, 0, 0, b"\x01\x00\x01"),
     )?;
     show(
         out,
         b"CZ on one wire twice",
-        circuit::amplitude(1, 2, 0, 0, b"\x10\x01\x01"),
+        amplitude(1, 2, 0, 0, b"\x10\x01\x01"),
     )
 }
 
 // A line: the case, and its spread.
-fn show_spread(out: &mut impl Write, name: &[u8], s: Counted) -> io::Result<()> {
+fn show_spread(
+    out: &mut impl Write,
+    name: &[u8],
+    s: Result<Option<usize>, Refusal>,
+) -> io::Result<()> {
     out.write_all(name)?;
     out.write_all(b": spread ")?;
     match s {
-        Counted::Refused(n) => {
+        Err(refusal) => {
             out.write_all(b"refused ")?;
-            output::number(out, n as u64)?;
+            output::number(out, u8::from(refusal) as u64)?;
         }
-        Counted::None => {
+        Ok(None) => {
             out.write_all(b"none")?;
         }
-        Counted::Exponent(e) => {
+        Ok(Some(e)) => {
             output::number(out, e as u64)?;
         }
     }
@@ -525,16 +465,16 @@ fn rules(out: &mut impl Write) -> io::Result<()> {
 }
 
 // The entry of what a turn left where slots 0 and 1 are 1, or its refusal.
-fn both_on(c: Changed) -> Answer {
+fn both_on(c: Changed) -> Result<Amount, u8> {
     if c.refusal != 0 {
-        return Answer::Refused(c.refusal);
+        return Err(c.refusal);
     }
     let t = c.table;
-    t.entry(3)
+    t.entry(3).map_err(u8::from)
 }
 
 // Two bits, and a turn of slots `u` and `v` by `k`.
-fn turn(u: usize, v: usize, k: u8) -> Answer {
+fn turn(u: usize, v: usize, k: u8) -> Result<Amount, u8> {
     both_on(wider(wider(Table::fresh())).turn(Slot(u), Slot(v), Quarter(k)))
 }
 

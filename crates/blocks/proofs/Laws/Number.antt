@@ -1,15 +1,9 @@
--- The number of a body's blocks and the count of its gates, by whether the blocks are at fault.
+-- The number of a body's blocks, by whether they are at fault.
 use mathlib.Core.Bool.{Bool, true, false, cond}
 use mathlib.Core.List.{List}
 use mathlib.Core.Path.{◌≡◌, refl, sym, ap, ◌∙◌, subst}
 use Prim.Native.Nat.{ℕ, zero, suc}
-use lib.ListN.{length}
-use Rattle.blocks.specs.Expansion.{expansion, blocks_fault, blocks_number}
-use Rattle.blocks.specs.Inner.Spans.{Expanded}
-
--- what `count` answers
-abbrev counted : List ℕ → Bool → ℕ
-counted bs b = cond b 0 (length (expansion bs))
+use Rattle.blocks.specs.Expansion.{blocks_fault, blocks_number}
 
 module _ (bs : List ℕ) where
   pub number-fault : blocks_fault bs ≡ true → 16 ≡ blocks_number bs
@@ -19,12 +13,6 @@ module _ (bs : List ℕ) where
   pub number-good : blocks_fault bs ≡ false → 0 ≡ blocks_number bs
   unfolding blocks_number
   number-good e = ap (λ (b : Bool). cond b 16 0) (sym e)
-
-  pub count-fault : blocks_fault bs ≡ true → 0 ≡ counted bs (blocks_fault bs)
-  count-fault e = ap (counted bs) (sym e)
-
-  pub count-good : (next size : ℕ) → Expanded bs next size → size ≡ counted bs (blocks_fault bs)
-  count-good next size E = E.count ∙ ap (counted bs) (sym E.good)
 
   -- where blocks are not refused they are not at fault
   pub no-fault : blocks_number bs ≡ 0 → blocks_fault bs ≡ false

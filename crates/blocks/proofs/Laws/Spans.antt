@@ -11,10 +11,7 @@ use borrow.Author.Tests.{lt-ltb, le-ltb}
 use Rattle.exact.proofs.Laws.Sum.{split}
 use Rattle.blocks.specs.Expansion.{code_at, wire_at, item_count, again, opened, levels, only_level, expansion, faulty, blocks_fault}
 use Rattle.blocks.specs.Inner.Spans.{rest, onto, before, Closed, Stands, Seen, Good, Expanded}
-use Rattle.blocks.proofs.Laws.Steps.{before-none, before-before, before-shut, opened-onto, opened-hollow, rest_plain, rest-open, rest-deep, rest-close, rest_end, rest-done, append-nil, length-append, length-again}
-
-pub seen_none : (bs : List ℕ) (j d : ℕ) → j ≤ item_count bs → Seen bs j d j 0
-seen_none bs j d l = record { holds = []; count = refl; from = omega arith; range = l; is = sym (before-none (rest bs j d)) }
+use Rattle.blocks.proofs.Laws.Steps.{before-before, before-shut, opened-onto, opened-hollow, rest_plain, rest-open, rest-deep, rest-close, rest_end, rest-done, append-nil, length-append, length-again}
 
 pub cap-add : (a b : ℕ) → min (min a 65537 + min b 65537) 65537 ≡ min (a + b) 65537
 cap-add a b = omega arith
@@ -130,10 +127,9 @@ module _ (bs : List ℕ) where
     unfolding blocks_fault
     whole_long h = ap faulty held ∙ lt-ltb 65536 (length S.holds) (omega (arith, S.count))
 
-    pub whole-good : size ≤ 65536 → Expanded bs (item_count bs) size
+    pub whole-good : size ≤ 65536 → Expanded bs size
     unfolding blocks_fault expansion
     whole-good h = record {
       good = ap faulty held ∙ le-ltb 65536 (length S.holds) (omega (arith, S.count));
-      end = refl;
       count = let e : size ≡ length S.holds = omega (arith, S.count) in e ∙ sym (ap (λ (x : List (List ℕ)). length (only_level x)) held);
     }

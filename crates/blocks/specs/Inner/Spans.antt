@@ -1,8 +1,7 @@
 -- What the readers of blocks and items promise each other: what is left from an item on, as what they have read before what is left behind it.
-use Rattle.std.specs.Prelude.{true, false, List, [], ◌∷◌, ◌++◌, ◌≢◌, ◌≡◌, ℕ, suc, ◌-◌, ◌<◌, ◌≤◌, min, length}
+use Rattle.std.specs.Prelude.{Option, Some, None, true, false, List, [], ◌∷◌, ◌++◌, ◌≢◌, ◌≡◌, ℕ, suc, ◌-◌, ◌<◌, ◌≤◌, min, length}
 use Rattle.blocks.specs.Expansion.{code_at, item_count, levels, expansion, blocks_fault}
 pub use Rattle.blocks.specs.declared.Span.{Span}
-pub use Rattle.blocks.specs.declared.Span.TheVariants.{Fault, Till}
 
 -- what is left from item j on, where d more blocks may open
 unfoldable pub rest : List ℕ → ℕ → ℕ → List (List ℕ)
@@ -42,13 +41,13 @@ pub record Seen (bs : List ℕ) (j d at size : ℕ) : Type 0 where
   pub range : at ≤ item_count bs
   pub is : rest bs j d ≡ before holds (rest bs at d)
 
-abbrev pub Block : List ℕ → ℕ → ℕ → Span → Type 0
-Block bs j d Fault = rest bs j d ≡ []
-Block bs j d (Till next size) = Closed bs j d next size
+abbrev pub Block : List ℕ → ℕ → ℕ → Option Span → Type 0
+Block bs j d None = rest bs j d ≡ []
+Block bs j d (Some s) = Closed bs j d s.next s.size
 
-abbrev pub Item : List ℕ → ℕ → ℕ → Span → Type 0
-Item bs j d Fault = rest bs j d ≡ []
-Item bs j d (Till next size) = Stands bs j d next size
+abbrev pub Item : List ℕ → ℕ → ℕ → Option Span → Type 0
+Item bs j d None = rest bs j d ≡ []
+Item bs j d (Some s) = Stands bs j d s.next s.size
 
 -- an item that closes no block
 pub record Good (bs : List ℕ) (j d : ℕ) : Type 0 where
@@ -56,13 +55,12 @@ pub record Good (bs : List ℕ) (j d : ℕ) : Type 0 where
   pub few : d ≤ 8
   pub not-close : code_at bs j ≢ 65
 
--- the whole body: its end, and how many gates the expansion has
-pub record Expanded (bs : List ℕ) (next size : ℕ) : Type 0 where
+-- the whole body: how many gates the expansion has
+pub record Expanded (bs : List ℕ) (size : ℕ) : Type 0 where
   pub good : blocks_fault bs ≡ false
-  pub end : next ≡ item_count bs
   pub count : size ≡ length (expansion bs)
 
 -- the whole body: a fault exactly where its blocks have one
-abbrev pub Whole : List ℕ → Span → Type 0
-Whole bs Fault = blocks_fault bs ≡ true
-Whole bs (Till next size) = Expanded bs next size
+abbrev pub Whole : List ℕ → Option ℕ → Type 0
+Whole bs None = blocks_fault bs ≡ true
+Whole bs (Some size) = Expanded bs size

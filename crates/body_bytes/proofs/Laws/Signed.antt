@@ -1,22 +1,21 @@
 -- Two's complement of 16 bits, and the range of a power: by the two signs.
-use mathlib.Core.Path.{◌≡◌, refl, sym, ap, ◌∙◌, subst}
+use mathlib.Core.Path.{◌≡◌, refl, sym, ap, ◌∙◌}
 use mathlib.Core.Bool.{true, false}
+use mathlib.Core.Logic.{⊎_elim}
 use Prim.Native.Nat.{ℕ, suc, ◌-◌, ◌≤◌, ◌<◌}
 use native.Mathlib.Omega.{arith}
 use lib.IntN.{ℤ, pos, negsuc, ◌-ℤ◌}
 use lib.Signed.{lt_z}
 use mir.Facts.{to_z_pos}
-use mir.Syntax.{w32}
-use mir.Val.{SFits, to_z}
+use mir.Syntax.{w16}
+use mir.Val.{to_z}
 use borrow.Author.Tests.{lt-ltb, le-ltb, le-leb, lt-leb, ltb-true, ltb-false}
+use Rattle.exact.proofs.Laws.Sum.{split}
 use Rattle.state.specs.Number.{outside}
 use Rattle.state.specs.Normal.{InRange}
 use Rattle.body_bytes.specs.Body.{signed16}
 
 module _ (n : ℕ) where
-  pub plain : n < 65536 → to_z w32 n ≡ pos n
-  plain h = to_z_pos w32 (omega arith)
-
   -- below 2^15, n itself
   pub signed_low : n < 32768 → signed16 n ≡ pos n
   unfolding signed16
@@ -33,8 +32,15 @@ module _ (n : ℕ) where
   pub signed_high : 32768 ≤ n → n < 65536 → signed16 n ≡ negsuc (65535 - n)
   signed_high l h = signed-less l ∙ less-is h
 
-  pub less-fits : 32768 ≤ n → n < 65536 → SFits w32 (pos n -ℤ pos 65536)
-  less-fits l h = subst (SFits w32) (sym (less-is h)) (record { sfits = omega arith })
+  -- the library's reading of 16 bits
+  pub signed-is : n < 65536 → to_z w16 n ≡ signed16 n
+  signed-is h = ⊎_elim low high (split n 32768)
+    where
+      low : n < 32768 → to_z w16 n ≡ signed16 n
+      low l = to_z_pos w16 l ∙ sym (signed_low l)
+
+      high : 32768 ≤ n → to_z w16 n ≡ signed16 n
+      high l = rw (le-ltb n 32768 l) (let e : 65536 - suc n ≡ 65535 - n = omega arith in ap negsuc e ∙ sym (signed_high l h))
 
 -- ---- "its power is below −2,000 or above 2,000"
 pub outside_low : (z : ℤ) → lt_z z (negsuc 1999) ≡ true → true ≡ outside z

@@ -1,21 +1,15 @@
--- `signed` meets its contract: the number as it stands, or less 2^16.
-use mathlib.Core.Path.{sym, ◌∙◌}
+-- `signed` meets its contract: the library's two's complement of 16 bits.
+use mathlib.Core.Path.{◌∙◌}
 use native.Mathlib.Omega.{arith}
+use borrow.Author.Rules.{rules}
 use mir.Facts.{to_z-of_z}
-use Rattle.body_bytes.proofs.Laws.Signed.{plain, signed_low, signed-less, less-fits}
+use mir.Syntax.{w16, w32}
+use mir.Val.{SFits}
+use Rattle.body_bytes.proofs.Laws.Signed.{signed-is}
 use Rattle.body_bytes.proofs.signed.Goals as goal
 
-pub overflow_sub-result : goal.overflow_sub-result
-overflow_sub-result c =
-    let n = c.args.n in
-    rw (plain n (omega arith)) (less-fits n (omega arith) (omega arith))
-
-pub returns-then-n-lt32768 : goal.returns-then-n-lt32768
-returns-then-n-lt32768 c =
-    let n = c.args.n in
-    plain n (omega arith) ∙ sym (signed_low n (omega arith))
-
-pub returns-else-n-lt32768 : goal.returns-else-n-lt32768
-returns-else-n-lt32768 c =
-    let n = c.args.n in
-    rw (plain n (omega arith)) (to_z-of_z (less-fits n (omega arith) (omega arith)) ∙ sym (signed-less n (omega arith)))
+pub returns : goal.returns
+returns c =
+    let f : SFits w32 c.from.result = search rules in
+    let g : SFits w16 c.cast_signed.result = search rules in
+    to_z-of_z f ∙ c.from.ensures ∙ to_z-of_z g ∙ c.cast_signed.ensures ∙ signed-is c.args.n (omega arith)

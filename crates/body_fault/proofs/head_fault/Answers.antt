@@ -6,18 +6,18 @@ use mir.Syntax.{w32}
 use mir.Val.{SFits}
 use borrow.Author.Rules.{rules}
 use Rattle.state.specs.Number.{outside}
-use Rattle.body_bytes.proofs.Laws.Fault.{head-mark, head-phase, head-power}
+use borrow.Author.Tests.{tests}
+use Rattle.std.proofs.lemmas.Grind.{common_steps}
+use Rattle.body_bytes.specs.Body.{head_fault}
 use Rattle.body_fault.proofs.head_fault.Goals as goal
 
-pub returns-then-read_u8-gt1 : goal.returns-then-read_u8-gt1
-returns-then-read_u8-gt1 c = head-mark c.args.bs.now (omega arith)
-
 pub returns-then-read_u8-gt7 : goal.returns-then-read_u8-gt7
-returns-then-read_u8-gt7 c = head-phase c.args.bs.now (omega arith) (omega arith)
+unfolding head_fault
+returns-then-read_u8-gt7 c = grind (arith, common_steps, tests)
 
-pub returns : goal.returns
-returns c =
+pub returns-else-read_u8-gt7 : goal.returns-else-read_u8-gt7
+unfolding head_fault
+returns-else-read_u8-gt7 c =
     let f : SFits w32 c.power_of.result = search rules in
-    c.power_out.ensures
-    ∙ ap outside (to_z-of_z f ∙ c.power_of.ensures)
-    ∙ head-power c.args.bs.now (omega arith) (omega arith)
+    let e = c.power_out.ensures ∙ ap outside (to_z-of_z f ∙ c.power_of.ensures) in
+    grind (arith, common_steps, tests, e)

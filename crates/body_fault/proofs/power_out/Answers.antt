@@ -1,5 +1,5 @@
 -- `power_out` meets its contract: by the two tests.
-use mathlib.Core.Path.{◌≡◌, subst}
+use mathlib.Core.Path.{◌≡◌, subst, ◌∙◌}
 use mathlib.Core.Bool.{true, false}
 use lib.IntN.{ℤ, negsuc}
 use lib.Signed.{lt_z}
@@ -11,10 +11,10 @@ use Rattle.body_fault.proofs.power_out.Goals as goal
 pub returns-then-s-lt-LEAST_POWER : goal.returns-then-s-lt-LEAST_POWER
 returns-then-s-lt-LEAST_POWER c =
     let s = c.args.s in
-    outside_low s (subst (λ (z : ℤ). lt_z z (negsuc 1999) ≡ true) (to_z-of_z w32 s c.ranges.s) c.if-s-lt-LEAST_POWER.true)
+    c.if-s-lt-LEAST_POWER.true ∙ outside_low s (subst (λ (z : ℤ). lt_z z (negsuc 1999) ≡ true) (to_z-of_z w32 s c.ranges.s) c.if-s-lt-LEAST_POWER.true)
 
-pub returns : goal.returns
-returns c =
+pub returns-else-s-lt-LEAST_POWER : goal.returns-else-s-lt-LEAST_POWER
+returns-else-s-lt-LEAST_POWER c =
     let s = c.args.s in
     let e = to_z-of_z w32 s c.ranges.s in
     rw e (outside_high s (subst (λ (z : ℤ). lt_z z (negsuc 1999) ≡ false) e c.if-s-lt-LEAST_POWER.false))

@@ -1,34 +1,17 @@
--- A power in range in two's complement: 65,536 more is not negative, and its rest is the number of 16 bits.
-use mathlib.Core.Bool.{Bool, cond}
-use mathlib.Core.Path.{◌≡◌, refl, sym, ap, subst}
-use Prim.Native.Nat.{ℕ, suc, ◌+◌, ◌-◌, ◌%◌, ◌<◌}
+-- A power in range in two's complement of 16 bits: it fits, and the library's bits are the documents'.
+use mathlib.Core.Path.{◌≡◌, refl}
 use native.Mathlib.Omega.{arith}
-use borrow.Author.Tests.{le-ltb}
-use lib.IntN.{ℤ, pos, negsuc, ◌+ℤ◌}
-use mir.Syntax.{w32}
-use mir.Val.{SFits}
+use lib.IntN.{ℤ, pos, negsuc}
+use mir.Syntax.{w16}
+use mir.Val.{SFits, of_z}
 use Rattle.state.specs.Normal.{InRange}
 use Rattle.body_fields.specs.Fields.{of_signed16}
 
--- 65,536 more
-pub raised : ℤ → ℕ
-raised (pos n) = n + 65536
-raised (negsuc n) = 65536 - suc n
+pub in-range-fits16 : (z : ℤ) → InRange z → SFits w16 z
+in-range-fits16 (pos n) h = record { sfits = omega (arith, h) }
+in-range-fits16 (negsuc n) h = record { sfits = omega (arith, h) }
 
-pub raised_is : (z : ℤ) → InRange z → z +ℤ pos 65536 ≡ pos (raised z)
-unfolding raised
-raised_is (pos n) h = refl
-raised_is (negsuc n) h = ap (λ (b : Bool). cond b (negsuc (suc n - suc 65536)) (pos (65536 - suc n))) (le-ltb 65536 (suc n) (omega arith))
-
-pub raised_lt : (z : ℤ) → InRange z → raised z < 70000
-unfolding raised
-raised_lt (pos n) h = omega arith
-raised_lt (negsuc n) h = omega arith
-
-pub raised-fits : (z : ℤ) → InRange z → SFits w32 (z +ℤ pos 65536)
-raised-fits z h = subst (SFits w32) (sym (raised_is z h)) (record { sfits = omega (arith, raised_lt z h) })
-
-pub raised-rest : (z : ℤ) → InRange z → raised z % 65536 ≡ of_signed16 z
-unfolding raised of_signed16
-raised-rest (pos n) h = omega arith
-raised-rest (negsuc n) h = omega arith
+pub signed16-bits : (z : ℤ) → of_z w16 z ≡ of_signed16 z
+unfolding of_signed16
+signed16-bits (pos n) = refl
+signed16-bits (negsuc n) = refl

@@ -13,7 +13,7 @@ use Rattle.body_fields.proofs.Laws.Bytes.{lent_none, lent-next, lent-done, lengt
 use Rattle.body_fields.proofs.write_ties.Goals as goal
 
 pub loop-j-init : goal.loop-j-init
-loop-j-init c = (omega arith, refl, lent_none _ _)
+loop-j-init c = (refl, lent_none _ _)
 
 pub write_tie-requires : goal.write_tie-requires
 write_tie-requires c = simp (lent-part, length-drop) (omega arith)
@@ -23,14 +23,13 @@ loop-j-preserved c =
     let l = c.loop-j in
     let a = c.args in
     let at = 9 * l.j in (
-      omega arith,
-      same_len_mid at (length l.part - at) l.part c.write_tie.new.part c.write_tie.auto.part ∙ l.invariant.1,
-      lent-next 9 (λ u. tie_bytes (mask_at a.t u) (side_at a.t u)) (λ u. length-tie _ _) a.part.now l.part c.write_tie.new.part l.j at (omega arith) l.invariant.2
+      same_len_mid at (length l.part - at) l.part c.write_tie.new.part c.write_tie.auto.part ∙ l.invariant.0,
+      lent-next 9 (λ u. tie_bytes (mask_at a.t u) (side_at a.t u)) (λ u. length-tie _ _) a.part.now l.part c.write_tie.new.part l.j at (omega arith) l.invariant.1
           (c.write_tie.ensures ∙ ap (λ (x : Tie). front (take (length l.part - at) (drop at l.part)) (tie_bytes x.mask x.side)) c.tie_at-a.ensures),
     )
 
 pub shape_of-part : goal.shape_of-part
-shape_of-part c = c.loop-j.invariant.1
+shape_of-part c = c.loop-j.invariant.0
 
 pub returns : goal.returns
-returns c = lent-done _ _ _ _ _ (omega arith) c.loop-j.invariant.2
+returns c = lent-done _ _ _ _ _ (omega arith) c.loop-j.invariant.1

@@ -12,21 +12,20 @@ use Rattle.body_fields.proofs.Laws.Bytes.{lent_none, lent-next, lent-done}
 use Rattle.body_fields.proofs.write_turns.Goals as goal
 
 pub loop-i-init : goal.loop-i-init
-loop-i-init c = (omega arith, refl, lent_none _ _)
+loop-i-init c = (refl, lent_none _ _)
 
 pub loop-i-preserved : goal.loop-i-preserved
 loop-i-preserved c =
     let l = c.loop-i in
     let a = c.args in
     let at = l.i in (
-      omega arith,
-      same_len_mid at (length l.part - at) l.part c.write_u8.new.part c.write_u8.auto.part ∙ l.invariant.1,
-      lent-next 1 (λ v. turn_at a.f v ∷ []) (λ v. refl) a.part.now l.part c.write_u8.new.part l.i at (omega arith) l.invariant.2
+      same_len_mid at (length l.part - at) l.part c.write_u8.new.part c.write_u8.auto.part ∙ l.invariant.0,
+      lent-next 1 (λ v. turn_at a.f v ∷ []) (λ v. refl) a.part.now l.part c.write_u8.new.part l.i at (omega arith) l.invariant.1
           (c.write_u8.ensures.fits (search rules) ∙ ap (λ (x : ℕ). front (take (length l.part - at) (drop at l.part)) (x ∷ [])) c.turn_at-a.ensures),
     )
 
 pub shape_of-part : goal.shape_of-part
-shape_of-part c = c.loop-i.invariant.1
+shape_of-part c = c.loop-i.invariant.0
 
 pub returns : goal.returns
-returns c = lent-done _ _ _ _ _ (omega arith) c.loop-i.invariant.2
+returns c = lent-done _ _ _ _ _ (omega arith) c.loop-i.invariant.1

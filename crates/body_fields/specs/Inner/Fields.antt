@@ -1,5 +1,5 @@
 -- The size of a body, the bytes of a packed table, and a table whose fields fit.
-use Rattle.std.specs.Prelude.{List, ℕ, zero, ◌+◌, ◌*◌, ◌≤◌, length}
+use Rattle.std.specs.Prelude.{List, ℕ, ◌+◌, ◌*◌, ◌≤◌, length}
 use Rattle.state.specs.declared.State.{State}
 use Rattle.state.specs.Entry.{turn, row, tie, side, ties}
 use Rattle.state.specs.Normal.{InRange}

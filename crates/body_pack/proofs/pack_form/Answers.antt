@@ -1,28 +1,15 @@
--- `pack_form` meets its contract: the slots below j are those of the packed form.
-use mathlib.Core.Path.{ap, ◌∙◌}
-use Prim.Native.Nat.{ℕ, ◌-◌}
-use native.Mathlib.Omega.{arith}
+-- `pack_form` meets its contract: each turn and row is the one that its index asks for.
 use borrow.Author.Rules.{rules}
-use Rattle.form.specs.Form.{turn_at, row_at}
-use Rattle.form.proofs.Laws.Upto.{length-parts}
-use Rattle.form.proofs.Laws.Changed.{changed-none, changed-more}
-use Rattle.body_pack.specs.Slot.{packed_mask}
-use Rattle.body_pack.proofs.Laws.Packed.{form-done}
+use Rattle.fields.proofs.Laws.Listed.{listed-made}
+use Rattle.form.specs.Form.{quarter, turn_at, row_at}
+use Rattle.body_pack.specs.Slot.{slot_at, packed_mask}
+use Rattle.body_pack.specs.Packed.{packed_form}
 use Rattle.body_pack.proofs.pack_form.Goals as goal
 
-pub loop-j-init : goal.loop-j-init
-loop-j-init c = (changed-none _ _ _, omega arith)
-
-pub loop-j-preserved : goal.loop-j-preserved
-loop-j-preserved c =
-    let l = c.loop-j in
-    let a = c.args in
-    let e = c.slot_at.ensures in (
-      changed-more _ _ _ _ _ _ _ l.invariant.0 (search (length-parts, rules)) (search rules) (omega arith)
-          (c.turn_at.ensures ∙ ap (turn_at _) e)
-          (c.packed_mask.ensures ∙ ap (λ (m : ℕ). packed_mask a.live m) (c.row_at-row.ensures ∙ ap (row_at _) e)),
-      omega arith,
-    )
-
 pub returns : goal.returns
-returns c = form-done _ _ _ _ (search (length-parts, rules)) (search rules) (omega arith) c.loop-j.invariant.0
+unfolding packed_form
+returns c =
+    let a = c.args in
+    let turns = listed-made _ _ (λ i. quarter (turn_at a.f (slot_at a.live i))) 64 (λ k r q l e. search rules) _ c.from_fn.ensures.items in
+    let signs = listed-made _ _ (λ i. packed_mask a.live (row_at a.f (slot_at a.live i))) 64 (λ k r q l e. search rules) _ c.from_fn-2.ensures.items in
+    λ i. record { phase = a.f.phase; turns = turns i; signs = signs i }

@@ -1,15 +1,14 @@
--- `pack_ties` meets its contract: the sets below j are packed.
-use Prim.Native.Nat.{◌-◌}
-use native.Mathlib.Omega.{arith}
+-- `pack_ties` meets its contract: each set is the one that its index asks for.
 use borrow.Author.Rules.{rules}
-use Rattle.body_pack.proofs.Laws.Packed.{gathered_none, gathered-more, gathered-done}
+use Rattle.fields.proofs.Laws.Listed.{listed-made}
+use Rattle.ties.specs.Ties.{mask_at}
+use Rattle.body_pack.specs.Slot.{packed_mask}
+use Rattle.body_pack.specs.Packed.{packed_ties}
 use Rattle.body_pack.proofs.pack_ties.Goals as goal
 
-pub loop-j-init : goal.loop-j-init
-loop-j-init c = (gathered_none _ _, omega arith)
-
-pub loop-j-preserved : goal.loop-j-preserved
-loop-j-preserved c = (gathered-more _ _ _ _ _ c.loop-j.invariant.0 (search rules) (omega arith) c.packed_mask.ensures, omega arith)
-
 pub returns : goal.returns
-returns c = gathered-done _ _ _ _ (search rules) (omega arith) c.loop-j.invariant.0
+unfolding packed_ties
+returns c =
+    let a = c.args in
+    let masks = listed-made _ _ (λ j. packed_mask a.live (mask_at a.t j)) 64 (λ k r q l e. search rules) _ c.from_fn-masks.ensures.items in
+    λ i. record { count = a.t.count; masks = masks i; sides = a.t.sides }

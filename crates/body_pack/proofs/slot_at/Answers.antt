@@ -1,6 +1,5 @@
 -- `slot_at` meets its contract: as many live slots as `below` counts were passed, and none of them is the one.
 use mathlib.Core.Path.{◌≡◌, sym, ap, ◌∙◌}
-use Prim.Native.Nat.{◌-◌}
 use native.Mathlib.Omega.{arith}
 use Rattle.bits.proofs.Laws.Bit.{bit-lt}
 use Rattle.body_pack.specs.Slot.{rank, slot_at}
@@ -9,7 +8,7 @@ use Rattle.body_pack.proofs.slot_at.Goals as goal
 use Rattle.body_pack.proofs.slot_at.Goals.{then-digit-eq1+else-below-i, else-digit-eq1}
 
 pub loop-v-init : goal.loop-v-init
-loop-v-init c = (omega arith, sym (rank-none c.args.live), omega arith)
+loop-v-init c = (sym (rank-none c.args.live), omega arith)
 
 pub returns-then-below-i : goal.returns-then-below-i
 returns-then-below-i c =
@@ -32,6 +31,6 @@ loop-v-preserved c =
     let l = c.loop-v in
     let d = c.digit.ensures in
     elim c.if-digit-eq1.branch [
-      | then-digit-eq1+else-below-i w ↦ (omega arith, omega (arith, rank-next a.live l.v l.below 1 l.invariant.1 (sym w.if-digit-eq1.true ∙ d.is)), omega arith)
-      | else-digit-eq1 w ↦ (omega arith, omega (arith, rank-next a.live l.v l.below 0 l.invariant.1 (omega (arith, bit-lt a.live l.v))), omega arith)
+      | then-digit-eq1+else-below-i w ↦ (omega (arith, rank-next a.live l.v l.below 1 l.invariant.0 (sym w.if-digit-eq1.true ∙ d.is)), omega arith)
+      | else-digit-eq1 w ↦ (omega (arith, rank-next a.live l.v l.below 0 l.invariant.0 (omega (arith, bit-lt a.live l.v))), omega arith)
     ]

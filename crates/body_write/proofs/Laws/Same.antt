@@ -5,14 +5,12 @@ use Prim.Native.Nat.{ℕ, ◌-◌, ◌^◌, ◌≤◌, ◌<◌}
 use native.Mathlib.Omega.{arith}
 use lib.Count.{ones}
 use Rattle.exact.proofs.Laws.Sum.{split}
-use Rattle.bits.proofs.Laws.Packed as mask
 use Rattle.form.specs.Inner.Move.{Changed}
 use Rattle.form.specs.Form.{quarter, turn_at, row_at}
 use Rattle.form.proofs.Laws.Beyond.{turn-none, row-none}
 use Rattle.ties.specs.Ties.{mask_at}
 use Rattle.ties.proofs.Laws.Lead.{reduced-eq}
 use Rattle.state.specs.declared.State.{State}
-use Rattle.state.specs.Entry.{ties}
 use Rattle.state.specs.Normal.{Normal}
 use Rattle.state.proofs.Laws.First.{free-from, row_low, tie-low}
 use Rattle.body_pack.specs.Slot.{slot_at, packed_mask}

@@ -8,12 +8,12 @@ use native.Mathlib.Omega.{arith}
 use Rattle.exact.specs.Chance.{power_of}
 use Rattle.exact.proofs.Laws.Sum.{split}
 use Rattle.bits.proofs.Laws.Bit.{same_or}
-use Rattle.contents.specs.Contents.{edition_of, count_of, kind_of, width_of, entry_of, contents_number}
+use Rattle.contents.specs.Contents.{edition_of, count_of, width_of, entry_of, contents_number}
 use Rattle.contents.proofs.Laws.Good.{good}
 use Rattle.body_bytes.specs.Body.{body_fault}
 use Rattle.book_bodies.specs.declared.Body.{Body}
 use Rattle.book_bodies.specs.Number.{circuit_body_number, record_body_number}
-use Rattle.book_bodies.specs.Answer.{refusal, said_number, said_chance, CircuitAnswer, RecordAnswer, TableAnswer}
+use Rattle.book_bodies.specs.Answer.{said_number, said_chance, CircuitAnswer, RecordAnswer, TableAnswer}
 use Rattle.book.specs.Book.{bytes_of}
 use Rattle.book.specs.Read.{ReadsBody, ReadsStrict}
 

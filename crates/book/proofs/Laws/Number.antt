@@ -1,7 +1,7 @@
 -- A body by its entry: its answer and its number; and the number of the book on each way through the code.
 use mathlib.Core.List.{List}
 use mathlib.Core.Logic.{◌≢◌, inl, inr, ⊎_elim}
-use mathlib.Core.Path.{◌≡◌, refl, sym, ap, ap₂, ◌∙◌, subst}
+use mathlib.Core.Path.{◌≡◌, refl, sym, ap, ◌∙◌, subst}
 use Prim.Native.Nat.{ℕ, ◌+◌, ◌-◌, ◌≤◌, ◌<◌}
 use native.Mathlib.Omega.{arith}
 use lib.ListN.{length, take, drop}
@@ -11,9 +11,9 @@ use Rattle.contents.specs.declared.Entry.{Entry}
 use Rattle.contents.specs.Contents.{edition_of, count_of, kind_of, width_of, entry_of, contents_number}
 use Rattle.contents.proofs.Laws.Good.{good}
 use Rattle.book.specs.Book.{bytes_of, BodyNumber, Clear, BookNumber}
-use Rattle.book_bodies.specs.Number.{circuit_body_number, record_body_number, TableNumber}
+use Rattle.book_bodies.specs.Number.{OwnNumber}
 use Rattle.book_bodies.specs.declared.Body.{Body}
-use Rattle.book_bodies.specs.Answer.{CircuitAnswer, RecordAnswer, TableAnswer, BodyAnswer}
+use Rattle.book_bodies.specs.Answer.{BodyAnswer}
 
 -- ---- the part of the book that is lent
 part-law : (bs : List ℕ) (j : ℕ) (e : Entry) → e ≡ entry_of bs j → take (e.start + e.length - e.start) (drop e.start bs) ≡ bytes_of bs j
@@ -23,15 +23,6 @@ part-law bs j e is =
     ap (λ (k : ℕ). take k (drop e.start bs)) q ∙ ap (λ (x : Entry). take x.length (drop x.start bs)) is
 
 -- ---- a body by its kind
-pub answer-circuit : (ed kind n : ℕ) (bs : List ℕ) (r : Body) → kind ≡ 1 → CircuitAnswer ed n bs r → BodyAnswer ed kind n bs r
-answer-circuit ed kind n bs r k a = record { circuit = λ q. a; table = λ q. absurd (omega (arith, k, q)); recorded = λ q. absurd (omega (arith, k, q)) }
-
-pub answer-record : (ed kind n : ℕ) (bs : List ℕ) (r : Body) → kind ≡ 3 → RecordAnswer n bs r → BodyAnswer ed kind n bs r
-answer-record ed kind n bs r k a = record { circuit = λ q. absurd (omega (arith, k, q)); table = λ q. absurd (omega (arith, k, q)); recorded = λ q. a }
-
-pub answer-table : (ed kind n : ℕ) (bs : List ℕ) (r : Body) → kind ≢ 1 → kind ≢ 3 → TableAnswer n bs r → BodyAnswer ed kind n bs r
-answer-table ed kind n bs r k m a = record { circuit = λ q. absurd (k q); table = λ q. a; recorded = λ q. absurd (m q) }
-
 -- the answer to the part of an entry, as the book's
 pub answer_at : (bs : List ℕ) (j ed : ℕ) (e : Entry) (r : Body) → ed ≡ edition_of bs → e ≡ entry_of bs j → BodyAnswer ed e.kind e.width (take (e.start + e.length - e.start) (drop e.start bs)) r
     → BodyAnswer (edition_of bs) (kind_of bs j) (width_of bs j) (bytes_of bs j) r
@@ -41,26 +32,14 @@ answer_at bs j ed e r states is a =
     (subst (λ (l : List ℕ). BodyAnswer ed e.kind e.width l r) (part-law bs j e is) a))
 
 -- ---- the number of a body
-pub number-circuit : (bs : List ℕ) (j ed : ℕ) (e : Entry) (k : ℕ) → ed ≡ edition_of bs → e ≡ entry_of bs j → e.kind ≡ 1 → k ≡ circuit_body_number ed e.width (take (e.start + e.length - e.start) (drop e.start bs)) → BodyNumber bs j k
-number-circuit bs j ed e k states is one a = record {
-  circuit = λ c. a ∙ ap₂ (circuit_body_number ed) (ap (λ (x : Entry). x.width) is) (part-law bs j e is) ∙ ap (λ (v : ℕ). circuit_body_number v (width_of bs j) (bytes_of bs j)) states;
-  table = λ c. absurd (let q : e.kind ≡ 2 = ap (λ (x : Entry). x.kind) is ∙ c in omega (arith, one, q));
-  recorded = λ c. absurd (let q : e.kind ≡ 3 = ap (λ (x : Entry). x.kind) is ∙ c in omega (arith, one, q));
-}
-
-pub number-record : (bs : List ℕ) (j : ℕ) (e : Entry) (k : ℕ) → e ≡ entry_of bs j → e.kind ≡ 3 → k ≡ record_body_number e.width (take (e.start + e.length - e.start) (drop e.start bs)) → BodyNumber bs j k
-number-record bs j e k is three a = record {
-  circuit = λ c. absurd (let q : e.kind ≡ 1 = ap (λ (x : Entry). x.kind) is ∙ c in omega (arith, three, q));
-  table = λ c. absurd (let q : e.kind ≡ 2 = ap (λ (x : Entry). x.kind) is ∙ c in omega (arith, three, q));
-  recorded = λ c. a ∙ ap₂ record_body_number (ap (λ (x : Entry). x.width) is) (part-law bs j e is);
-}
-
-pub number-table : (bs : List ℕ) (j : ℕ) (e : Entry) (k : ℕ) → e ≡ entry_of bs j → e.kind ≢ 1 → e.kind ≢ 3 → TableNumber e.width (take (e.start + e.length - e.start) (drop e.start bs)) k → BodyNumber bs j k
-number-table bs j e k is not nor a = record {
-  circuit = λ c. absurd (not (ap (λ (x : Entry). x.kind) is ∙ c));
-  table = λ c. subst (λ (x : Entry). TableNumber x.width (bytes_of bs j) k) is (subst (λ (l : List ℕ). TableNumber e.width l k) (part-law bs j e is) a);
-  recorded = λ c. absurd (nor (ap (λ (x : Entry). x.kind) is ∙ c));
-}
+-- the number of the part of an entry, as the book's
+pub number_at : (bs : List ℕ) (j ed : ℕ) (e : Entry) (k : ℕ) → ed ≡ edition_of bs → e ≡ entry_of bs j → OwnNumber ed e.kind e.width (take (e.start + e.length - e.start) (drop e.start bs)) k → BodyNumber bs j k
+number_at bs j ed e k states is a =
+    let own : OwnNumber (edition_of bs) (kind_of bs j) (width_of bs j) (bytes_of bs j) k =
+    subst (λ (v : ℕ). OwnNumber v (kind_of bs j) (width_of bs j) (bytes_of bs j) k) states
+    (subst (λ (x : Entry). OwnNumber ed x.kind x.width (bytes_of bs j) k) is
+    (subst (λ (l : List ℕ). OwnNumber ed e.kind e.width l k) (part-law bs j e is) a)) in
+    record { circuit = own.circuit; table = own.table; recorded = own.recorded }
 
 -- ---- the number of the book
 module _ (bs : List ℕ) where

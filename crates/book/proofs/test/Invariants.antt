@@ -1,10 +1,6 @@
--- `test` meets its contract: the invariant says that no body before those left is refused.
-use Prim.Native.Nat.{◌≤◌, ◌-◌}
+-- `test` meets its contract: no body before body j is refused.
 use Rattle.book.specs.Book.{Clear}
 use Rattle.book.proofs.test.Given as goal
 
-abbrev pub invariant-loop-left : goal.invariant-loop-left
-invariant-loop-left l = (l.left ≤ l.n) × Clear l.book (l.n - l.left)
-
-abbrev pub decreases-loop-left : goal.decreases-loop-left
-decreases-loop-left l = l.left
+abbrev pub invariant-loop-j : goal.invariant-loop-j
+invariant-loop-j l = Clear l.book l.j

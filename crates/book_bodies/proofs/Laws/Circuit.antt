@@ -6,8 +6,9 @@ use native.Mathlib.Omega.{arith}
 use lib.Dec.{ltb}
 use lib.ListN.{length, take, drop}
 use borrow.Author.Tests.{lt-ltb, le-ltb}
-use Rattle.exact.specs.declared.Answer.{Answer}
-use Rattle.exact.specs.declared.Answer.TheVariants.{Refused as NotGiven, Is}
+use Rattle.std.specs.Prelude.{Result, Ok, Err}
+use Rattle.exact.specs.declared.Amount.{Amount}
+use Rattle.exact.specs.declared.Refusal.{Refusal}
 use Rattle.fields.proofs.Laws.Front.{lent-part}
 use Rattle.gates.specs.Circuit.{circuit_number}
 use Rattle.gates.proofs.Laws.Small.{either_number, circuit-small}
@@ -39,8 +40,8 @@ module _ (ed n : ℕ) (bs : List ℕ) where
   }
 
   module _ (h : 8 ≤ length bs) where
-    of-answer : (a : Answer) → Amplitude ed n (input_of bs) (output_of bs) (gates_of bs) a → CircuitAnswer ed n bs (body (said_of a) fresh_table)
-    of-answer (NotGiven k) A = record {
+    of-answer : (a : Result Amount Refusal) → Amplitude ed n (input_of bs) (output_of bs) (gates_of bs) a → CircuitAnswer ed n bs (body (said_of a) fresh_table)
+    of-answer (Err k) A = record {
       refused = λ ne. ap refusal (A.number ∙ sym (long-number h));
       given = λ z. absurd (none z);
       value = λ z. absurd (none z);
@@ -48,14 +49,14 @@ module _ (ed n : ℕ) (bs : List ℕ) where
       where
         none : circuit_body_number ed n bs ≡ 0 → ⊥
         none z = A.value (sym (long-number h) ∙ z)
-    of-answer (Is a) A = record {
+    of-answer (Ok a) A = record {
       refused = λ ne. absurd (ne (long-number h ∙ sym A.number));
       given = λ z. refl;
       value = λ z. A;
     }
 
     -- the circuit that the code was handed: two numbers read, and the part behind them
-    pub circuit-law : (a : Answer) (s : Said) (t : State) (i o : ℕ) → Amplitude ed n i o (take (length bs - 8) (drop 8 bs)) a → i ≡ input_of bs → o ≡ output_of bs → s ≡ said_of a → t ≡ fresh_table → CircuitAnswer ed n bs (body s t)
+    pub circuit-law : (a : Result Amount Refusal) (s : Said) (t : State) (i o : ℕ) → Amplitude ed n i o (take (length bs - 8) (drop 8 bs)) a → i ≡ input_of bs → o ≡ output_of bs → s ≡ said_of a → t ≡ fresh_table → CircuitAnswer ed n bs (body s t)
     circuit-law a s t i o A p q e f =
         let B = subst (λ (v : ℕ). Amplitude ed n v o (take (length bs - 8) (drop 8 bs)) a) p A in
         let C = subst (λ (v : ℕ). Amplitude ed n (input_of bs) v (take (length bs - 8) (drop 8 bs)) a) q B in

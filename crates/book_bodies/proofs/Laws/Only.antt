@@ -4,12 +4,13 @@ use mathlib.Core.List.{List}
 use mathlib.Core.Logic.{⊎_elim}
 use mathlib.Core.Path.{◌≡◌, refl, sym, ap, ◌∙◌}
 use Prim.Native.Nat.{ℕ}
-use Rattle.exact.specs.declared.Answer.TheVariants.{Is}
-use Rattle.exact.specs.Answer.{amount_of}
+use Rattle.std.specs.Prelude.{Result, Ok, Err}
+use Rattle.circuit.specs.Inner.Held.{amount_of}
 use Rattle.bits.proofs.Laws.Bit.{same_or}
 use Rattle.state.specs.Normal.{Normal}
-use Rattle.exact.specs.declared.Told.TheVariants.{Is as IsChance}
-use Rattle.exact.specs.Inner.Held.{chance_of}
+use Rattle.exact.specs.declared.Chance.{Chance}
+use Rattle.exact.specs.declared.Chance.TheVariants.{Never}
+use Rattle.exact.specs.declared.Refusal.{Refusal}
 use Rattle.contents.specs.Contents.{good_kind}
 use Rattle.contents.proofs.Laws.Entry.{kind-cases}
 use Rattle.circuit.proofs.Laws.Only.{one-amplitude}
@@ -18,6 +19,11 @@ use Rattle.body_bytes.specs.Body.{body_fault}
 use Rattle.body_read.specs.Table.{table_of}
 use Rattle.book_bodies.specs.Number.{input_of, output_of, gates_of, circuit_body_number, record_gates, record_body_number, TableNumber, OwnNumber}
 use Rattle.book_bodies.specs.Answer.{Body, said_number, said_amount, said_chance, circuit_body, record_body, CircuitAnswer, RecordAnswer, TableAnswer}
+
+-- the chance that an answer holds
+abbrev chance_of : Result Chance Refusal → Chance
+chance_of (Ok c) = c
+chance_of (Err r) = Never
 
 -- ---- a table's body
 module _ (n : ℕ) (bs : List ℕ) where
@@ -46,7 +52,7 @@ module _ (n : ℕ) (bs : List ℕ) where
     where
       given : circuit_body_number ed n bs ≡ 0 → r ≡ s
       given z =
-          let e = one-amplitude ed n (input_of bs) (output_of bs) (gates_of bs) (Is (said_amount r.said)) (Is (said_amount s.said)) (R.value z) (S.value z) in
+          let e = one-amplitude ed n (input_of bs) (output_of bs) (gates_of bs) (Ok (said_amount r.said)) (Ok (said_amount s.said)) (R.value z) (S.value z) in
           R.given z ∙ ap circuit_body (ap amount_of e) ∙ sym (S.given z)
 
   -- ---- a record's body
@@ -55,7 +61,7 @@ module _ (n : ℕ) (bs : List ℕ) where
     where
       given : record_body_number n bs ≡ 0 → r ≡ s
       given z =
-          let e = one-chance n (input_of bs) (record_gates bs) (IsChance (said_chance r.said)) (IsChance (said_chance s.said)) (R.value z) (S.value z) in
+          let e = one-chance n (input_of bs) (record_gates bs) (Ok (said_chance r.said)) (Ok (said_chance s.said)) (R.value z) (S.value z) in
           R.given z ∙ ap record_body (ap chance_of e) ∙ sym (S.given z)
 
 -- ---- a body by its kind

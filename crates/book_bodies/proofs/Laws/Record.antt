@@ -6,8 +6,9 @@ use native.Mathlib.Omega.{arith}
 use lib.Dec.{ltb}
 use lib.ListN.{length, take, drop}
 use borrow.Author.Tests.{lt-ltb, le-ltb}
-use Rattle.exact.specs.declared.Told.{Told}
-use Rattle.exact.specs.declared.Told.TheVariants.{Refused as NotTold, Is}
+use Rattle.std.specs.Prelude.{Result, Ok, Err}
+use Rattle.exact.specs.declared.Chance.{Chance}
+use Rattle.exact.specs.declared.Refusal.{Refusal}
 use Rattle.fields.proofs.Laws.Front.{lent-part}
 use Rattle.gates.specs.Record.{record_number}
 use Rattle.gates.proofs.Laws.Small.{either_number, record-small}
@@ -39,8 +40,8 @@ module _ (n : ℕ) (bs : List ℕ) where
   }
 
   module _ (h : 4 ≤ length bs) where
-    of-told : (a : Told) → Chanced n (input_of bs) (record_gates bs) a → RecordAnswer n bs (body (said_told a) fresh_table)
-    of-told (NotTold k) A = record {
+    of-told : (a : Result Chance Refusal) → Chanced n (input_of bs) (record_gates bs) a → RecordAnswer n bs (body (said_told a) fresh_table)
+    of-told (Err k) A = record {
       refused = λ ne. ap refusal (A.number ∙ sym (long-record h));
       given = λ z. absurd (none z);
       value = λ z. absurd (none z);
@@ -48,14 +49,14 @@ module _ (n : ℕ) (bs : List ℕ) where
       where
         none : record_body_number n bs ≡ 0 → ⊥
         none z = A.value (sym (long-record h) ∙ z)
-    of-told (Is c) A = record {
+    of-told (Ok c) A = record {
       refused = λ ne. absurd (ne (long-record h ∙ sym A.number));
       given = λ z. refl;
       value = λ z. A;
     }
 
     -- the record that the code was handed: a number read, and the part behind it
-    pub record-law : (a : Told) (s : Said) (t : State) (i : ℕ) → Chanced n i (take (length bs - 4) (drop 4 bs)) a → i ≡ input_of bs → s ≡ said_told a → t ≡ fresh_table → RecordAnswer n bs (body s t)
+    pub record-law : (a : Result Chance Refusal) (s : Said) (t : State) (i : ℕ) → Chanced n i (take (length bs - 4) (drop 4 bs)) a → i ≡ input_of bs → s ≡ said_told a → t ≡ fresh_table → RecordAnswer n bs (body s t)
     record-law a s t i A p e f =
         let B = subst (λ (v : ℕ). Chanced n v (take (length bs - 4) (drop 4 bs)) a) p A in
         let C = subst (λ (l : List ℕ). Chanced n (input_of bs) l a) (lent-part bs 4) B in

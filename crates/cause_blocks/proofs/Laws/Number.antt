@@ -2,33 +2,17 @@
 use mathlib.Core.Bool.{Bool, true, false, cond, not, ◌&&◌}
 use mathlib.Core.List.{List, [], ◌∷◌}
 use mathlib.Core.Logic.{◌≢◌, ⊎_elim}
-use mathlib.Core.Path.{◌≡◌, refl, sym, ap, ◌∙◌, subst}
-use Prim.Native.Nat.{ℕ, zero, suc, ◌+◌, ◌-◌, ◌*◌, ◌≤◌, ◌<◌}
+use mathlib.Core.Path.{◌≡◌, refl, sym, ap, ◌∙◌}
+use Prim.Native.Nat.{ℕ, zero, suc, ◌+◌, ◌-◌, ◌*◌}
 use native.Mathlib.Omega.{arith}
 use lib.Dec.{eqb}
-use borrow.Author.Tests.{eq-eqb, ne_eqb, eqb-true}
+use borrow.Author.Tests.{ne_eqb, eqb-true}
 use Rattle.blocks.specs.Expansion.{code_at, wire_at, item_count, levels, led, shut, opened, faulty, blocks_fault, blocks_number}
 use Rattle.bits.proofs.Laws.Bit.{same_or}
 use Rattle.cause.specs.declared.Cause.TheVariants.{Deep, Unopened, Empty, Unclosed, Expansion}
-use Rattle.cause.specs.declared.Found.{Found}
-use Rattle.cause.specs.Cause.{Look, number_of, found, sound, found_number, ◌finds◌, first_found, or_else, in_order}
-use Rattle.cause.proofs.Laws.First.{Plain, plain-first, plain-last, plain-else, plain-order, else-first, else-next, order-here, order-next, order-one, order-end, first-number, last-number}
+use Rattle.cause.specs.Cause.{Finding, Look, number_of, found, found_number, ◌finds◌, first_found, or_else}
+use Rattle.cause.proofs.Laws.First.{else-first, else-next, order-here, order-next, order-one, first-number, last-number}
 use Rattle.cause_blocks.specs.Blocks.{Scan, mark_found, behind, scan_found, start, long_found, blocks_found}
-use Rattle.cause_blocks.specs.Inner.Steps.{Steps}
-
--- ---- faults are faults
-pub plain-mark : (at code j : ℕ) (s : Scan) → Plain (mark_found at code j s)
-unfolding mark_found number_of
-plain-mark at code j s = plain-first _ _ _ _ _ (λ z. omega arith) (plain-first _ _ _ _ _ (λ z. omega arith) (plain-first _ _ _ _ _ (λ z. omega arith) plain-last))
-
-pub plain-long : (at : ℕ) (bs : List ℕ) → Plain (long_found at bs)
-unfolding long_found number_of
-plain-long at bs = plain-first _ _ _ _ _ (λ z. omega arith) plain-last
-
-pub plain-scan : (at : ℕ) (bs : List ℕ) (n j : ℕ) (s : Scan) → Plain (scan_found at bs n j s)
-unfolding scan_found number_of
-plain-scan at bs zero j s = plain-first _ _ _ _ _ (λ z. omega arith) plain-last
-plain-scan at bs (suc n) j s = plain-else (mark_found at (code_at bs j) j s) _ (plain-scan at bs n (suc j) (behind (code_at bs j) j s))
 
 -- ---- what is left from an item on cannot stand: nothing, or, behind a mark that opens, an empty block
 abbrev Bad : List (List ℕ) → Bool → Type 0
@@ -71,7 +55,7 @@ clash : true ≡ false → ⊥
 clash z = let q : ◌≡◌ {A = ℕ} 1 0 = ap (λ (b : Bool). cond b 1 0) z in absurd (omega arith)
 
 -- an item is at fault as a mark, or what comes behind it cannot stand
-bad-item : (opens closes none all fresh : Bool) (w j d x : ℕ) (lev : ℕ → List (List ℕ)) (rest : Found) → (opens && closes) ≡ false
+bad-item : (opens closes none all fresh : Bool) (w j d x : ℕ) (lev : ℕ → List (List ℕ)) (rest : Finding) → (opens && closes) ≡ false
     → (found_number rest ≢ 0 → Bad (lev (cond opens (d - 1) (cond closes (suc d) d))) opens)
     → found_number (or_else (first_found ((opens && none) finds found Deep j x ∷ (closes && all) finds found Unopened j x ∷ (closes && fresh) finds found Empty j x ∷ [])) rest) ≢ 0
     → Bad (cond opens (cond none [] (opened w (lev (d - 1)))) (cond closes (cond all [] (shut (lev (suc d)))) (led j (lev d)))) fresh
@@ -101,10 +85,10 @@ bad-levels at bs (suc n) j s ne =
     (bad-levels at bs n (suc j) (behind (code_at bs j) j s)) ne
 
 -- ---- the numbers
-abbrev Sixteen : Found → Type 0
+abbrev Sixteen : Finding → Type 0
 Sixteen f = found_number f ≢ 0 → found_number f ≡ 16
 
-sixteen-first : (b : Bool) (f : Found) (ts : List Look) → found_number f ≡ 16 → Sixteen (first_found ts) → Sixteen (first_found (b finds f ∷ ts))
+sixteen-first : (b : Bool) (f : Finding) (ts : List Look) → found_number f ≡ 16 → Sixteen (first_found ts) → Sixteen (first_found (b finds f ∷ ts))
 unfolding first_found
 sixteen-first true f ts e h ne = e
 sixteen-first false f ts e h ne = h ne
@@ -113,7 +97,7 @@ sixteen-last : Sixteen (first_found [])
 unfolding first_found number_of
 sixteen-last ne = absurd (ne refl)
 
-sixteen-else : (f g : Found) → Sixteen f → Sixteen g → Sixteen (or_else f g)
+sixteen-else : (f g : Finding) → Sixteen f → Sixteen g → Sixteen (or_else f g)
 sixteen-else f g h k ne =
     ⊎_elim (λ z. sym (ap found_number (else-next f g z)) ∙ k (λ e. ne (sym (ap found_number (else-next f g z)) ∙ e)))
     (λ n. sym (ap found_number (else-first f g n)) ∙ h n) (same_or (found_number f) 0)
@@ -145,10 +129,6 @@ unfolding blocks_found
 blocks-number at bs =
     let f = scan_found at bs (item_count bs) 0 start in
     ⊎_elim
-    (λ z. sym (ap found_number (order-next f (long_found at bs ∷ []) (long_found at bs) z (order-one (long_found at bs) (plain-long at bs)))) ∙ long-number at bs)
+    (λ z. sym (ap found_number (order-next f (long_found at bs ∷ []) (long_found at bs) z (order-one (long_found at bs)))) ∙ long-number at bs)
     (λ ne. sym (ap found_number (order-here f (long_found at bs ∷ []) f refl ne)) ∙ sixteen-scan at bs (item_count bs) 0 start ne ∙ faulty-number bs (marks-refused at bs ne))
     (same_or (found_number f) 0)
-
-pub plain-blocks : (at : ℕ) (bs : List ℕ) → Plain (blocks_found at bs)
-unfolding blocks_found
-plain-blocks at bs = plain-order _ _ (plain-order _ _ (λ z. sym order-end))

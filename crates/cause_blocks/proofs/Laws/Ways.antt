@@ -1,6 +1,6 @@
 -- The first fault of blocks on each way through the code: a mark, what is known behind it, and the scan.
 use mathlib.Core.Bool.{Bool, true, false, cond, not, ◌&&◌}
-use mathlib.Core.List.{List, [], ◌∷◌}
+use mathlib.Core.List.{List, []}
 use mathlib.Core.Logic.{◌≢◌}
 use mathlib.Core.Path.{◌≡◌, refl, sym, ap, ap₂, ◌∙◌}
 use Prim.Native.Nat.{ℕ, suc, ◌+◌, ◌-◌, ◌*◌, ◌≤◌, ◌<◌}
@@ -10,8 +10,7 @@ use lib.Dec.{eqb}
 use borrow.Author.Tests.{eq-eqb, ne_eqb, eqb-true}
 use Rattle.blocks.specs.Expansion.{code_at, item_count, blocks_fault, blocks_number}
 use Rattle.cause.specs.declared.Cause.TheVariants.{Deep, Unopened, Empty, Unclosed, Expansion}
-use Rattle.cause.specs.declared.Found.{Found}
-use Rattle.cause.specs.Cause.{number_of, found, sound, found_number, or_else}
+use Rattle.cause.specs.Cause.{Finding, number_of, found, sound, found_number, or_else}
 use Rattle.cause.proofs.Laws.First.{pick, pass, no_more, else-first, else-next, order-here, order-next, order-end}
 use Rattle.cause_blocks.specs.Blocks.{Scan, mark_found, behind, scan_found, start, long_found, blocks_found}
 use Rattle.cause_blocks.specs.Inner.Steps.{Steps}
@@ -25,7 +24,7 @@ no-right true b e = e
 no-right false b e = refl
 
 -- ---- a mark
-module _ (at code j : ℕ) (s : Scan) (r : Found) where
+module _ (at code j : ℕ) (s : Scan) (r : Finding) where
   pub mark-none : code ≢ 65 → code ≢ 64 → r ≡ sound → r ≡ mark_found at code j s
   unfolding mark_found
   mark-none m k h =
@@ -129,7 +128,7 @@ module _ (at : ℕ) (bs : List ℕ) where
       ap (λ (k : ℕ). scan_found at bs k j s) q ∙ ap (λ (k : ℕ). or_else (mark_found at (code_at bs j) j s) (scan_found at bs (n - (j + 1)) k (behind (code_at bs j) j s))) (sym (add-one j))
 
   module _ (n j : ℕ) (s : Scan) (so_far : scan_found at bs n 0 start ≡ scan_found at bs (n - j) j s) where
-    pub scan-here : (r : Found) → n ≡ item_count bs → j < n → r ≡ mark_found at (code_at bs j) j s → found_number r ≢ 0 → r ≡ blocks_found at bs
+    pub scan-here : (r : Finding) → n ≡ item_count bs → j < n → r ≡ mark_found at (code_at bs j) j s → found_number r ≢ 0 → r ≡ blocks_found at bs
     unfolding blocks_found
     scan-here r c l e ne =
         order-here _ _ _ (e ∙ else-first _ _ (λ z. ne (ap found_number e ∙ z)) ∙ sym (so_far ∙ scan-turn n j s l) ∙ ap (λ (k : ℕ). scan_found at bs k 0 start) c) ne
@@ -141,7 +140,7 @@ module _ (at : ℕ) (bs : List ℕ) where
       scan-end : scan_found at bs (item_count bs) 0 start ≡ scan_found at bs 0 j s
       scan-end = let q : n - j ≡ 0 = omega arith in ap (λ (k : ℕ). scan_found at bs k 0 start) (sym c) ∙ so_far ∙ ap (λ (k : ℕ). scan_found at bs k j s) q
 
-      pub scan-unclosed : (r : Found) → s.more ≢ 8 → r ≡ found Unclosed s.outer (at + 3 * s.outer) → r ≡ blocks_found at bs
+      pub scan-unclosed : (r : Finding) → s.more ≢ 8 → r ≡ found Unclosed s.outer (at + 3 * s.outer) → r ≡ blocks_found at bs
       unfolding blocks_found scan_found number_of
       scan-unclosed r ne e = order-here _ _ _ (pick _ _ _ [] e (ap not (ne_eqb s.more 8 ne)) ∙ sym scan-end) (λ z. let q : ◌≡◌ {A = ℕ} 16 0 = sym (ap found_number e) ∙ z in omega arith)
 
@@ -149,11 +148,11 @@ module _ (at : ℕ) (bs : List ℕ) where
       unfolding scan_found number_of
       scan-clean h = ap found_number (scan-end ∙ sym (pass _ (found Unclosed s.outer (at + 3 * s.outer)) sound [] (ap not (eq-eqb s.more 8 h)) (no_more sound refl)))
 
-      pub scan-long : (r : Found) → s.more ≡ 8 → blocks_number bs ≢ 0 → r ≡ found Expansion 0 at → r ≡ blocks_found at bs
+      pub scan-long : (r : Finding) → s.more ≡ 8 → blocks_number bs ≢ 0 → r ≡ found Expansion 0 at → r ≡ blocks_found at bs
       unfolding blocks_found long_found number_of
       scan-long r h ne e =
           order-next _ _ _ (scan-clean h) (order-here _ _ _ (pick _ _ _ [] e (number-faulty bs ne)) (λ z. let q : ◌≡◌ {A = ℕ} 16 0 = sym (ap found_number e) ∙ z in omega arith))
 
-      pub scan_good : (r : Found) → s.more ≡ 8 → blocks_number bs ≡ 0 → r ≡ sound → r ≡ blocks_found at bs
+      pub scan_good : (r : Finding) → s.more ≡ 8 → blocks_number bs ≡ 0 → r ≡ sound → r ≡ blocks_found at bs
       unfolding blocks_found
       scan_good r h z e = order-next _ _ _ (scan-clean h) (order-next _ _ _ (long-number at bs ∙ z) (e ∙ order-end))

@@ -1,15 +1,15 @@
 -- The first fault of a body by its entry, and the room of its part.
 use mathlib.Core.List.{List}
 use mathlib.Core.Logic.{◌≢◌}
-use mathlib.Core.Path.{◌≡◌, sym, ap, ap₂, ◌∙◌, subst}
+use mathlib.Core.Path.{◌≡◌, ap, ap₂, ◌∙◌, subst}
 use Prim.Native.Nat.{ℕ, ◌+◌, ◌-◌, ◌*◌, ◌≤◌}
 use native.Mathlib.Omega.{arith}
 use lib.ListN.{length, take, drop, length-drop}
 use lib.Seq.{length-take-le}
 use Rattle.contents.specs.declared.Entry.{Entry}
-use Rattle.contents.specs.Contents.{edition_of, kind_of, width_of, start_of, entry_of}
+use Rattle.contents.specs.Contents.{edition_of, kind_of, entry_of}
 use Rattle.book.specs.Book.{bytes_of}
-use Rattle.cause.specs.declared.Found.{Found}
+use Rattle.cause.specs.Cause.{Finding}
 use Rattle.cause_circuit.specs.Circuit.{circuit_found, record_found}
 use Rattle.cause_table.specs.Table.{TableFound}
 use Rattle.cause_book.specs.Why.{BodyFound}
@@ -33,7 +33,7 @@ part_small bs e h l =
     omega (arith, t)
 
 -- ---- a body by its kind
-module _ (bs : List ℕ) (j : ℕ) (e : Entry) (f : Found) (is : e ≡ entry_of bs j) where
+module _ (bs : List ℕ) (j : ℕ) (e : Entry) (f : Finding) (is : e ≡ entry_of bs j) where
   kind : e.kind ≡ kind_of bs j
   kind = ap (λ (x : Entry). x.kind) is
 

@@ -1,28 +1,29 @@
 -- The number that is answered is the book's number, and the body's: by the numbers of the first faults.
 use mathlib.Core.Bool.{Bool, true, false, cond, not, ◌||◌}
 use mathlib.Core.List.{List}
-use mathlib.Core.Logic.{◌≢◌, inl, inr, ⊎_elim}
+use mathlib.Core.Logic.{inl, inr, ⊎_elim}
 use mathlib.Core.Path.{◌≡◌, refl, sym, ap, ◌∙◌, subst}
 use Prim.Native.Nat.{ℕ, ◌+◌, ◌*◌, ◌<◌}
 use native.Mathlib.Omega.{arith}
 use lib.Dec.{eqb, ltb}
 use lib.ListN.{length}
 use borrow.Author.Tests.{not-false}
+use Rattle.std.specs.Prelude.{Some, None}
 use Rattle.fields.specs.Bytes.{byte_at}
 use Rattle.editions.specs.Edition.{good_edition}
-use Rattle.contents.specs.Contents.{edition_of, count_of, kind_of, width_of, start_of, header_fault, contents_number}
+use Rattle.contents.specs.Contents.{edition_of, count_of, width_of, start_of, header_fault, contents_number}
 use Rattle.contents.proofs.Laws.Some.{or-no-left, or-no-right}
 use Rattle.contents.proofs.Laws.Test.{number-nine}
-use Rattle.body_bytes.specs.Body.{body_fault}
 use Rattle.book_bodies.specs.Number.{circuit_body_number, record_body_number, TableNumber}
 use Rattle.book.specs.Book.{bytes_of, BodyNumber, BookNumber}
-use Rattle.cause.specs.declared.Found.{Found}
-use Rattle.cause.specs.Cause.{number_of, sound, found_number}
+use Rattle.cause.specs.Cause.{Finding, number_of, sound, found_number}
+use Rattle.cause_contents.specs.Contents.{contents_found}
 use Rattle.cause_contents.proofs.Laws.Number.{contents-number}
 use Rattle.cause_circuit.proofs.Laws.Number.{circuit-number, record-number}
-use Rattle.cause_table.specs.Table.{body_found, TableFound}
+use Rattle.cause_table.specs.Table.{TableFound}
 use Rattle.cause_table.proofs.Laws.Number.{body-number as eleven-number}
-use Rattle.cause_book.specs.Why.{Reason, BodyFound, BookWhy, FirstFault, BodyWhy}
+use Rattle.cause_book.proofs.Laws.Ways.{why-finding}
+use Rattle.cause_book.specs.Why.{Why, why_number, BodyFound, BookWhy, BodyWhy}
 
 -- good contents state a good edition
 good-edition : (bs : List ℕ) → contents_number bs ≡ 0 → good_edition (edition_of bs) ≡ true
@@ -41,7 +42,7 @@ good-edition bs z =
     clear false e = refl
 
 -- ---- a table's body
-table-number : (from wat n : ℕ) (bs : List ℕ) (f : Found) → TableFound from wat n bs f → TableNumber n bs (found_number f)
+table-number : (from wat n : ℕ) (bs : List ℕ) (f : Finding) → TableFound from wat n bs f → TableNumber n bs (found_number f)
 unfolding number_of
 table-number from wat n bs f T = record {
   fault = λ h. ap found_number (T.fault h) ∙ eleven-number from wat n bs ∙ ap (λ (b : Bool). cond b 11 0) h;
@@ -51,7 +52,7 @@ table-number from wat n bs f T = record {
 }
 
 -- ---- a body
-pub body-number : (bs : List ℕ) → contents_number bs ≡ 0 → (j : ℕ) (f : Found) → BodyFound bs j f → BodyNumber bs j (found_number f)
+pub body-number : (bs : List ℕ) → contents_number bs ≡ 0 → (j : ℕ) (f : Finding) → BodyFound bs j f → BodyNumber bs j (found_number f)
 unfolding circuit_body_number record_body_number
 body-number bs z j f F = record {
   circuit = λ c. ap found_number (F.circuit c) ∙ circuit-number (start_of bs j) (5 + 8 * j) (edition_of bs) (width_of bs j) (bytes_of bs j) (good-edition bs z);
@@ -60,14 +61,13 @@ body-number bs z j f F = record {
 }
 
 -- ---- the book: the number answered is the book's
-pub why-number : (bs : List ℕ) (r : Reason) → BookWhy bs r → BookNumber bs r.number
-unfolding number_of
+pub why-number : (bs : List ℕ) (r : Why) → BookWhy bs r → BookNumber bs (why_number r)
 why-number bs r W = record {
-  contents = λ ne. ap (λ (w : Reason). w.number) (W.contents ne) ∙ contents-number bs;
+  contents = λ ne. ap why_number (W.contents ne) ∙ why-finding None (contents_found bs) ∙ contents-number bs;
   bodies = λ z. ⊎_elim
-      (λ u. inl (ap (λ (w : Reason). w.number) u.0, λ i l. body-number bs z i sound (u.1 i l)))
+      (λ u. inl (ap why_number u.0, λ i l. body-number bs z i sound (u.1 i l)))
       (λ F.
-      let e : r.number ≡ found_number F.fault = ap (λ (w : Reason). w.number) F.is in
+      let e : why_number r ≡ found_number F.fault = ap why_number F.is ∙ why-finding (Some F.at) F.fault in
       inr (record {
         at = F.at;
         below = F.below;
@@ -78,5 +78,5 @@ why-number bs r W = record {
 }
 
 -- ---- a body of the book: the number answered is the body's
-pub why-body-number : (bs : List ℕ) (j : ℕ) (r : Reason) → BodyWhy bs j r → contents_number bs ≡ 0 → j < count_of bs → BodyNumber bs j r.number
-why-body-number bs j r W z l = subst (BodyNumber bs j) (sym (ap (λ (w : Reason). w.number) (W.is z l))) (body-number bs z j W.fault (W.here z l))
+pub why-body-number : (bs : List ℕ) (j : ℕ) (r : Why) → BodyWhy bs j r → contents_number bs ≡ 0 → j < count_of bs → BodyNumber bs j (why_number r)
+why-body-number bs j r W z l = subst (BodyNumber bs j) (sym (ap why_number (W.is z l) ∙ why-finding (Some j) W.fault)) (body-number bs z j W.fault (W.here z l))

@@ -3,7 +3,6 @@ use mathlib.Core.Bool.{Bool, true, false, cond, not}
 use mathlib.Core.List.{List, [], ◌∷◌}
 use mathlib.Core.Path.{◌≡◌, refl, sym, ap, ap₂, ◌∙◌}
 use Prim.Native.Nat.{ℕ, ◌+◌, ◌*◌, ◌%◌, ◌^◌}
-use native.Mathlib.Omega.{arith}
 use lib.Dec.{eqb, ltb, leb}
 use lib.ListN.{length, drop}
 use borrow.Author.Tests.{eqb-true}
@@ -15,9 +14,8 @@ use Rattle.circuit_number.specs.Inner.Tested.{tested_number}
 use Rattle.circuit_number.proofs.Laws.Number.{record-tested, circuit-next, edition-good}
 use Rattle.editions.specs.Edition.{good_edition}
 use Rattle.cause.specs.declared.Cause.TheVariants.{Strings, Threes, Many, Wires, Input, Output}
-use Rattle.cause.specs.declared.Found.{Found}
-use Rattle.cause.specs.Cause.{number_of, found, found_number, ◌finds◌, first_found, first_below, in_order}
-use Rattle.cause.proofs.Laws.First.{Plain, plain-first, plain-last, plain-order, order-number, order-last, order-end}
+use Rattle.cause.specs.Cause.{Finding, number_of, found, found_number, ◌finds◌, first_found, first_below, in_order}
+use Rattle.cause.proofs.Laws.First.{order-number, order-last}
 use Rattle.cause_blocks.specs.Blocks.{blocks_found}
 use Rattle.cause_blocks.proofs.Laws.Number.{blocks-number}
 use Rattle.cause_items.specs.Items.{item_found}
@@ -70,7 +68,7 @@ tested-number from at wat d width input output gs =
     ∙ after (not (eqb (length gs % 3) 0)) (ltb 4096 (item_count gs)) (ltb width 1) (ltb 31 width) (leb (2 ^ width) input) (leb (2 ^ width) output) (gates_number d width gs (item_count gs)) (blocks_number gs) _ _
     (head-tests (not (eqb (length gs % 3) 0)) (ltb 4096 (item_count gs)) (ltb width 1) (ltb 31 width) (leb (2 ^ width) input) (leb (2 ^ width) output) (item_count gs) (at + 3 * item_count gs) (at + 12288) wat from (from + 4)) next
 
-go : (b : Bool) (from : ℕ) (f : Found) {n : ℕ} → found_number f ≡ n → found_number (cond b (found Strings 0 from) f) ≡ cond b 11 n
+go : (b : Bool) (from : ℕ) (f : Finding) {n : ℕ} → found_number f ≡ n → found_number (cond b (found Strings 0 from) f) ≡ cond b 11 n
 unfolding number_of
 go true from f e = refl
 go false from f e = e
@@ -85,21 +83,3 @@ pub record-number : (from wat width : ℕ) (bs : List ℕ) → found_number (rec
 unfolding record_found
 record-number from wat width bs =
     go (ltb (length bs) 4) _ _ (tested-number from (from + 4) wat 3 width (number 4 bs 0) 0 (drop 4 bs) ∙ record-tested width (number 4 bs 0) (drop 4 bs))
-
--- ---- faults are faults
-pub plain-tested : (from at wat d width input output : ℕ) (gs : List ℕ) → Plain (tested_found from at wat d width input output gs)
-unfolding tested_found
-plain-tested from at wat d width input output gs = plain-order _ _ (plain-order _ _ (plain-order _ _ (λ z. sym order-end)))
-
-plain-strings : (b : Bool) (from : ℕ) (f : Found) → Plain f → Plain (cond b (found Strings 0 from) f)
-unfolding number_of
-plain-strings true from f p z = absurd (let q : ◌≡◌ {A = ℕ} 11 0 = z in omega arith)
-plain-strings false from f p z = p z
-
-pub plain-circuit : (from wat e width : ℕ) (bs : List ℕ) → Plain (circuit_found from wat e width bs)
-unfolding circuit_found
-plain-circuit from wat e width bs = plain-strings (ltb (length bs) 8) from _ (plain-tested from (from + 8) wat e width (number 4 bs 0) (number 4 bs 4) (drop 8 bs))
-
-pub plain-record : (from wat width : ℕ) (bs : List ℕ) → Plain (record_found from wat width bs)
-unfolding record_found
-plain-record from wat width bs = plain-strings (ltb (length bs) 4) from _ (plain-tested from (from + 4) wat 3 width (number 4 bs 0) 0 (drop 4 bs))

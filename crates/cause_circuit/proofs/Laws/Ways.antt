@@ -2,7 +2,7 @@
 use mathlib.Core.Bool.{Bool, true, false, cond, not}
 use mathlib.Core.List.{List}
 use mathlib.Core.Logic.{◌≢◌}
-use mathlib.Core.Path.{◌≡◌, refl, sym, ap, ap₂, ◌∙◌}
+use mathlib.Core.Path.{◌≡◌, sym, ap, ap₂, ◌∙◌}
 use Prim.Native.Nat.{ℕ, ◌+◌, ◌-◌, ◌*◌, ◌/◌, ◌%◌, ◌^◌, ◌≤◌, ◌<◌}
 use lib.Dec.{eqb, ltb, leb}
 use lib.ListN.{length, take, drop}
@@ -11,15 +11,13 @@ use Rattle.fields.specs.Bytes.{number}
 use Rattle.fields.proofs.Laws.Front.{lent-part}
 use Rattle.blocks.specs.Expansion.{item_count}
 use Rattle.cause.specs.declared.Cause.TheVariants.{Strings, Threes, Many, Wires, Input, Output}
-use Rattle.cause.specs.declared.Found.{Found}
-use Rattle.cause.specs.Cause.{found, sound, found_number, first_below}
+use Rattle.cause.specs.Cause.{Finding, found, sound, found_number, first_below}
 use Rattle.cause.proofs.Laws.First.{pick, pass, no_more, order-here, order-next, order-one}
 use Rattle.cause_blocks.specs.Blocks.{blocks_found}
-use Rattle.cause_blocks.proofs.Laws.Number.{plain-blocks}
 use Rattle.cause_items.specs.Items.{item_found}
 use Rattle.cause_circuit.specs.Circuit.{head_found, tested_found, circuit_found, record_found}
 
-module _ (from at wat width input output : ℕ) (gs : List ℕ) (r : Found) where
+module _ (from at wat width input output : ℕ) (gs : List ℕ) (r : Finding) where
   pub not-threes : length gs % 3 ≢ 0 → r ≡ found Threes (length gs / 3) (at + 3 * (length gs / 3)) → r ≡ head_found from at wat width input output gs
   unfolding head_found
   not-threes h e = pick _ _ _ _ e (ap not (ne_eqb (length gs % 3) 0 h))
@@ -69,7 +67,7 @@ module _ (from at wat width input output : ℕ) (gs : List ℕ) (r : Found) wher
             head-sound h e = pass _ _ _ _ t1 (pass _ _ _ _ t2 (pass _ _ _ _ t3 (pass _ _ _ _ t4 (pass _ _ _ _ t5 (pass _ _ _ _ (lt-leb (2 ^ width) output h) (no_more _ e))))))
 
 -- ---- the head, the items, the blocks
-module _ (from at wat d width input output : ℕ) (gs : List ℕ) (r : Found) where
+module _ (from at wat d width input output : ℕ) (gs : List ℕ) (r : Finding) where
   pub in_head : r ≡ head_found from at wat width input output gs → found_number r ≢ 0 → r ≡ tested_found from at wat d width input output gs
   unfolding tested_found
   in_head e ne = order-here _ _ _ e ne
@@ -81,13 +79,13 @@ module _ (from at wat d width input output : ℕ) (gs : List ℕ) (r : Found) wh
 
     pub in_blocks : found_number (first_below (item_count gs) (item_found at d width gs)) ≡ 0 → r ≡ blocks_found at gs → r ≡ tested_found from at wat d width input output gs
     unfolding tested_found
-    in_blocks i e = order-next _ _ _ h (order-next _ _ _ i (e ∙ order-one (blocks_found at gs) (plain-blocks at gs)))
+    in_blocks i e = order-next _ _ _ h (order-next _ _ _ i (e ∙ order-one (blocks_found at gs)))
 
 -- ---- a body
-chosen : (b t : Bool) (f g r : Found) → b ≡ t → r ≡ cond t f g → r ≡ cond b f g
+chosen : (b t : Bool) (f g r : Finding) → b ≡ t → r ≡ cond t f g → r ≡ cond b f g
 chosen b t f g r e h = h ∙ sym (ap (λ (x : Bool). cond x f g) e)
 
-module _ (from wat e width : ℕ) (bs : List ℕ) (r : Found) where
+module _ (from wat e width : ℕ) (bs : List ℕ) (r : Finding) where
   pub circuit-short : length bs < 8 → r ≡ found Strings 0 from → r ≡ circuit_found from wat e width bs
   unfolding circuit_found
   circuit-short l h = chosen (ltb (length bs) 8) true (found Strings 0 from) _ r (lt-ltb (length bs) 8 l) h

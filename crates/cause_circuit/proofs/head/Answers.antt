@@ -1,5 +1,5 @@
 -- `head` meets its contract: the tests in their order.
-use mathlib.Core.Path.{subst}
+use mathlib.Core.Path.{refl, subst}
 use Prim.Native.Nat.{ℕ, ◌≤◌, ◌<◌}
 use native.Mathlib.Omega.{arith}
 use Rattle.circuit_number.proofs.Laws.Number.{strings}
@@ -25,4 +25,4 @@ pub returns-then-strings-output : goal.returns-then-strings-output
 returns-then-strings-output c = let a = c.args in let n = strings a.width c.if-width-gt-MOST_WIRES.false in output-out a.from a.at a.listed a.width a.input a.output a.gates.now _ c.if-gates-ne0.false c.if-gates-gt-MOST_GATES.false c.if-width-lt1.false c.if-width-gt-MOST_WIRES.false (subst (λ (m : ℕ). a.input < m) n c.if-strings-input.false) (subst (λ (m : ℕ). m ≤ a.output) n c.if-strings-output.true) c.fault-then-strings-output.ensures
 
 pub returns : goal.returns
-returns c = let a = c.args in let n = strings a.width c.if-width-gt-MOST_WIRES.false in head-sound a.from a.at a.listed a.width a.input a.output a.gates.now _ c.if-gates-ne0.false c.if-gates-gt-MOST_GATES.false c.if-width-lt1.false c.if-width-gt-MOST_WIRES.false (subst (λ (m : ℕ). a.input < m) n c.if-strings-input.false) (subst (λ (m : ℕ). a.output < m) n c.if-strings-output.false) c.sound.ensures
+returns c = let a = c.args in let n = strings a.width c.if-width-gt-MOST_WIRES.false in head-sound a.from a.at a.listed a.width a.input a.output a.gates.now _ c.if-gates-ne0.false c.if-gates-gt-MOST_GATES.false c.if-width-lt1.false c.if-width-gt-MOST_WIRES.false (subst (λ (m : ℕ). a.input < m) n c.if-strings-input.false) (subst (λ (m : ℕ). a.output < m) n c.if-strings-output.false) refl

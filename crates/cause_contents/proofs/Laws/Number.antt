@@ -1,7 +1,7 @@
 -- The number of the first fault of header and contents is that of the book's contents, and where it is 0 there is none.
 use mathlib.Core.Bool.{Bool, true, false, cond, not, ◌||◌}
 use mathlib.Core.List.{List, [], ◌∷◌}
-use mathlib.Core.Logic.{◌≢◌, ⊎_elim}
+use mathlib.Core.Logic.{◌≢◌}
 use mathlib.Core.Path.{◌≡◌, refl, sym, ap, ap₂, ◌∙◌}
 use Prim.Native.Nat.{ℕ, zero, suc, ◌+◌, ◌*◌}
 use native.Mathlib.Omega.{arith}
@@ -12,21 +12,9 @@ use Rattle.editions.specs.Edition.{good_edition}
 use Rattle.contents.specs.declared.Entry.{Entry}
 use Rattle.contents.specs.Contents.{edition_of, count_of, entry_of, body_start, good_kind, any_below, header_fault, fault_at, entry_fault, contents_fault, contents_number}
 use Rattle.cause.specs.declared.Cause.TheVariants.{Short, Long, Letters, Edition, Count, Contents, Kind, Start, End, LastEnd}
-use Rattle.cause.specs.declared.Found.{Found}
-use Rattle.cause.specs.Cause.{number_of, found, found_number, ◌finds◌, first_found, first_below, in_order}
-use Rattle.cause.proofs.Laws.First.{Plain, plain-first, plain-last, plain-below, plain-order, order-one, order-number, order-last, first-number, last-number, else-number}
+use Rattle.cause.specs.Cause.{Finding, number_of, found, found_number, ◌finds◌, first_found, first_below, in_order}
+use Rattle.cause.proofs.Laws.First.{order-number, order-last, first-number, last-number, else-number}
 use Rattle.cause_contents.specs.Contents.{header_found, entry_found, short_found, end_found, entry_at, contents_found}
-
--- ---- a fault is one where its number is not 0
-pub plain-header : (bs : List ℕ) → Plain (header_found bs)
-unfolding header_found number_of
-plain-header bs =
-    plain-first _ _ _ _ _ (λ z. omega arith) (plain-first _ _ _ _ _ (λ z. omega arith) (plain-first _ _ _ _ _ (λ z. omega arith)
-    (plain-first _ _ _ _ _ (λ z. omega arith) (plain-first _ _ _ _ _ (λ z. omega arith) (plain-first _ _ _ _ _ (λ z. omega arith) plain-last)))))
-
-pub plain_entry : (ed : ℕ) (e : Entry) (j from size : ℕ) → Plain (entry_found ed e j from size)
-unfolding entry_found number_of
-plain_entry ed e j from size = plain-first _ _ _ _ _ (λ z. omega arith) (plain-first _ _ _ _ _ (λ z. omega arith) (plain-first _ _ _ _ _ (λ z. omega arith) plain-last))
 
 -- ---- the number of the header and of an entry
 header-tests : (a b c d e f : Bool) (i : ℕ) → found_number (first_found (a finds found Short 0 0 ∷ b finds found Long 0 i ∷ c finds found Letters 0 0 ∷ d finds found Letters 0 1 ∷ e finds found Edition 0 2 ∷ f finds found Count 0 3 ∷ []))
@@ -104,6 +92,6 @@ contents-number bs = go (header_fault bs) (ltb (length bs) (4 + 8 * count_of bs)
     all false false false true = refl
     all false false false false = refl
 
-    go : (a b c d : Bool) (f g h i : Found) → found_number f ≡ cond a 9 0 → found_number g ≡ cond b 10 0 → found_number h ≡ cond c 10 0 → found_number i ≡ cond d 10 0 → found_number (in_order (f ∷ g ∷ h ∷ i ∷ [])) ≡ cond a 9 (cond (b || c || d) 10 0)
+    go : (a b c d : Bool) (f g h i : Finding) → found_number f ≡ cond a 9 0 → found_number g ≡ cond b 10 0 → found_number h ≡ cond c 10 0 → found_number i ≡ cond d 10 0 → found_number (in_order (f ∷ g ∷ h ∷ i ∷ [])) ≡ cond a 9 (cond (b || c || d) 10 0)
     go a b c d f g h i p q r s =
         order-number f (g ∷ h ∷ i ∷ []) ∙ both (cond a 9 0) _ p (order-number g (h ∷ i ∷ []) ∙ both (cond b 10 0) _ q (order-number h (i ∷ []) ∙ both (cond c 10 0) _ r (order-number i [] ∙ both (cond d 10 0) 0 s order-last))) ∙ all a b c d

@@ -1,6 +1,6 @@
 -- The first fault of header and contents on each way through the code.
 use mathlib.Core.Bool.{not}
-use mathlib.Core.List.{List, [], ◌∷◌}
+use mathlib.Core.List.{List, []}
 use mathlib.Core.Logic.{◌≢◌}
 use mathlib.Core.Path.{◌≡◌, refl, sym, ap, ap₂, ◌∙◌}
 use Prim.Native.Nat.{ℕ, ◌+◌, ◌*◌, ◌≤◌, ◌<◌}
@@ -10,17 +10,16 @@ use borrow.Author.Tests.{lt-ltb, le-ltb, eq-eqb, ne_eqb}
 use Rattle.contents.specs.declared.Entry.{Entry}
 use Rattle.contents.specs.Contents.{edition_of, count_of, entry_of, body_start}
 use Rattle.cause.specs.declared.Cause.TheVariants.{Contents, LastEnd}
-use Rattle.cause.specs.declared.Found.{Found}
-use Rattle.cause.specs.Cause.{number_of, found, sound, found_number, first_below}
-use Rattle.cause.proofs.Laws.First.{pick, pass, no_more, order-here, order-next, order-end, below-here, below_none}
+use Rattle.cause.specs.Cause.{Finding, number_of, found, sound, found_number, first_below}
+use Rattle.cause.proofs.Laws.First.{pick, pass, no_more, order-here, order-next, order-end, below-here}
 use Rattle.cause_contents.specs.Contents.{header_found, entry_found, short_found, end_found, entry_at, contents_found}
 
 -- a turn of the loop looks at entry j
-pub turn-entry : (bs : List ℕ) (j at ed : ℕ) (e : Entry) (r : Found) → e ≡ entry_of bs j → at ≡ body_start bs j → ed ≡ edition_of bs → r ≡ entry_found ed e j at (length bs) → r ≡ entry_at bs j
+pub turn-entry : (bs : List ℕ) (j at ed : ℕ) (e : Entry) (r : Finding) → e ≡ entry_of bs j → at ≡ body_start bs j → ed ≡ edition_of bs → r ≡ entry_found ed e j at (length bs) → r ≡ entry_at bs j
 turn-entry bs j at ed e r is from states h =
     h ∙ ap (λ (x : ℕ). entry_found x e j at (length bs)) states ∙ ap₂ (λ (x : Entry) (y : ℕ). entry_found (edition_of bs) x j y (length bs)) is from
 
-module _ (bs : List ℕ) (r : Found) where
+module _ (bs : List ℕ) (r : Finding) where
   pub at-header : r ≡ header_found bs → found_number r ≢ 0 → r ≡ contents_found bs
   unfolding contents_found
   at-header e ne = order-here _ _ _ e ne

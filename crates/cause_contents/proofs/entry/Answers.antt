@@ -1,6 +1,6 @@
 -- `entry` meets its contract: test by test.
 use mathlib.Core.Bool.{not}
-use mathlib.Core.Path.{sym, ap, ◌∙◌}
+use mathlib.Core.Path.{refl, sym, ap, ◌∙◌}
 use Prim.Native.Nat.{◌+◌}
 use native.Mathlib.Omega.{arith}
 use borrow.Author.Tests.{lt-ltb, le-ltb, eq-eqb, ne_eqb, not-true, not-false}
@@ -26,4 +26,4 @@ returns-then-size-e-2 c = let a = c.args in pass _ _ _ _ (ap not (sym c.good_kin
 
 pub returns : goal.returns
 unfolding entry_found
-returns c = let a = c.args in pass _ _ _ _ (ap not (sym c.good_kind.ensures ∙ not-false c.good_kind.result c.if-not-good_kind.false-raw)) (pass _ _ _ _ (ap not (eq-eqb a.e.start a.from (omega arith))) (pass _ _ _ _ (le-ltb a.size (a.e.start + a.e.length) (omega arith)) (no_more _ c.sound.ensures)))
+returns c = let a = c.args in pass _ _ _ _ (ap not (sym c.good_kind.ensures ∙ not-false c.good_kind.result c.if-not-good_kind.false-raw)) (pass _ _ _ _ (ap not (eq-eqb a.e.start a.from (omega arith))) (pass _ _ _ _ (le-ltb a.size (a.e.start + a.e.length) (omega arith)) (no_more _ refl)))

@@ -1,6 +1,6 @@
 -- `header` meets its contract: test by test.
 use mathlib.Core.Bool.{not}
-use mathlib.Core.Path.{sym, ap, ◌∙◌}
+use mathlib.Core.Path.{refl, sym, ap, ◌∙◌}
 use native.Mathlib.Omega.{arith}
 use borrow.Author.Tests.{lt-ltb, le-ltb, eq-eqb, ne_eqb, not-true, not-false}
 use lib.ListN.{length}
@@ -37,4 +37,4 @@ returns-then-count-gt-MOST_BODIES c = let bs = c.args.bs.now in pass _ _ _ _ (le
 
 pub returns : goal.returns
 unfolding header_found
-returns c = let bs = c.args.bs.now in pass _ _ _ _ (le-ltb (length bs) 4 (omega arith)) (pass _ _ _ _ (le-ltb 60000 (length bs) (omega arith)) (pass _ _ _ _ (ap not (eq-eqb (byte_at bs 0) 0x51 (omega arith))) (pass _ _ _ _ (ap not (eq-eqb (byte_at bs 1) 0x4E (omega arith))) (pass _ _ _ _ (ap not (ap good_edition (sym c.edition.ensures) ∙ sym c.good_edition.ensures ∙ not-false c.good_edition.result c.if-not-good_edition.false-raw)) (pass _ _ _ _ (le-ltb 16 (count_of bs) (omega arith)) (no_more _ c.sound.ensures))))))
+returns c = let bs = c.args.bs.now in pass _ _ _ _ (le-ltb (length bs) 4 (omega arith)) (pass _ _ _ _ (le-ltb 60000 (length bs) (omega arith)) (pass _ _ _ _ (ap not (eq-eqb (byte_at bs 0) 0x51 (omega arith))) (pass _ _ _ _ (ap not (eq-eqb (byte_at bs 1) 0x4E (omega arith))) (pass _ _ _ _ (ap not (ap good_edition (sym c.edition.ensures) ∙ sym c.good_edition.ensures ∙ not-false c.good_edition.result c.if-not-good_edition.false-raw)) (pass _ _ _ _ (le-ltb 16 (count_of bs) (omega arith)) (no_more _ refl))))))

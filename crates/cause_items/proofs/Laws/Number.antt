@@ -1,7 +1,6 @@
 -- The number of an item's fault is the item's, so that the first fault's is that of the first item that is refused.
-use mathlib.Core.Bool.{Bool, true, false, cond, not, ◌&&◌, ◌||◌}
+use mathlib.Core.Bool.{Bool, true, false, cond, ◌&&◌, ◌||◌}
 use mathlib.Core.List.{List, [], ◌∷◌}
-use mathlib.Core.Logic.{◌≢◌}
 use mathlib.Core.Path.{◌≡◌, refl, sym, ap, ap₂, ◌∙◌}
 use Prim.Native.Nat.{ℕ, zero, suc, ◌+◌, ◌*◌}
 use native.Mathlib.Omega.{arith}
@@ -13,9 +12,8 @@ use Rattle.gates.specs.declared.Reading.{Reading}
 use Rattle.gates.specs.Read.{one_wire, two_wire, one_read, two_read, word_code, word_read, word_in, mark, mark_read, mark_in, measures, cut_read, gate_read}
 use Rattle.gates.specs.Circuit.{number_of as read_number, item_at, gates_number}
 use Rattle.cause.specs.declared.Cause.TheVariants.{Code, Wire, SecondWire, SameWire, SecondByte, Outcome, NoCount, Stray}
-use Rattle.cause.specs.declared.Found.{Found}
-use Rattle.cause.specs.Cause.{Look, number_of, found, sound, found_number, ◌finds◌, first_found, first_below}
-use Rattle.cause.proofs.Laws.First.{Plain, plain-first, plain-last, plain-below, else-number}
+use Rattle.cause.specs.Cause.{Finding, number_of, found, found_number, ◌finds◌, first_found, first_below}
+use Rattle.cause.proofs.Laws.First.{else-number}
 use Rattle.cause_items.specs.Items.{range_found, read_found, item_found}
 
 -- ---- which numbers an item has
@@ -50,7 +48,7 @@ range-number : (byte j code second : ℕ) → found_number (range_found byte j c
 unfolding range_found
 range-number byte j code second = range-tests _ (eqb code 64) _ (eqb code 65) (eqb code 80) j (byte + 1) (byte + 2)
 
-read-tests : (z a b w c d : Bool) (j x y u : ℕ) (r : Found) → found_number r ≡ 3 → (z || a || b || c || d) ≡ true
+read-tests : (z a b w c d : Bool) (j x y u : ℕ) (r : Finding) → found_number r ≡ 3 → (z || a || b || c || d) ≡ true
     → found_number (first_found (a finds found Code j x ∷ (b && w) finds found Wire j y ∷ b finds found SecondWire j u ∷ c finds found SameWire j u ∷ d finds r ∷ [])) ≡ cond a 7 (cond b 6 (cond c 2 (cond d 3 0)))
 unfolding first_found number_of
 read-tests z true b w c d j x y u r e h = refl
@@ -91,21 +89,3 @@ items-number at d width bs zero = refl
 items-number at d width bs (suc n) =
     else-number (first_below n (item_found at d width bs)) (item_found at d width bs n)
     ∙ ap₂ (λ (x y : ℕ). cond (eqb x 0) y x) (items-number at d width bs n) (item-number at d width bs n)
-
--- ---- faults are faults
-plain-test : (b : Bool) (f : Found) (ts : List Look) → Plain f → Plain (first_found ts) → Plain (first_found (b finds f ∷ ts))
-unfolding first_found
-plain-test true f ts p q = p
-plain-test false f ts p q = q
-
-plain-range : (byte j code second : ℕ) → Plain (range_found byte j code second)
-plain-range byte j code second z = absurd (let q : ◌≡◌ {A = ℕ} 3 0 = sym (range-number byte j code second) ∙ z in omega arith)
-
-pub plain-item : (at d width : ℕ) (bs : List ℕ) (j : ℕ) → Plain (item_found at d width bs j)
-unfolding item_found read_found number_of
-plain-item at d width bs j =
-    plain-first _ _ _ _ _ (λ z. omega arith) (plain-first _ _ _ _ _ (λ z. omega arith) (plain-first _ _ _ _ _ (λ z. omega arith) (plain-first _ _ _ _ _ (λ z. omega arith)
-    (plain-test _ (range_found (at + 3 * j) j (code_at bs j) (get_or bs (3 * j + 2) 0)) _ (plain-range (at + 3 * j) j (code_at bs j) (get_or bs (3 * j + 2) 0)) plain-last))))
-
-pub plain-items : (at d width : ℕ) (bs : List ℕ) (n : ℕ) → Plain (first_below n (item_found at d width bs))
-plain-items at d width bs n = plain-below (item_found at d width bs) (plain-item at d width bs) n

@@ -12,8 +12,7 @@ use Rattle.gates.specs.declared.Reading.{Reading}
 use Rattle.gates.specs.Read.{gate_read}
 use Rattle.gates.specs.Circuit.{number_of, item_at}
 use Rattle.cause.specs.declared.Cause.TheVariants.{Code, Wire, SecondWire, SameWire, SecondByte, Outcome, NoCount, Stray}
-use Rattle.cause.specs.declared.Found.{Found}
-use Rattle.cause.specs.Cause.{found, sound}
+use Rattle.cause.specs.Cause.{Finding, found, sound}
 use Rattle.cause.proofs.Laws.First.{pick, pass, no_more}
 use Rattle.cause_items.specs.Items.{range_found, read_found, item_found}
 
@@ -25,7 +24,7 @@ no-right true b e = e
 no-right false b e = refl
 
 -- ---- refused by 3
-module _ (byte j code second : ℕ) (r : Found) where
+module _ (byte j code second : ℕ) (r : Finding) where
   pub stray-open : code ≡ 64 → second ≢ 0 → r ≡ found Stray j (byte + 2) → r ≡ range_found byte j code second
   unfolding range_found
   stray-open m k h = pick _ _ _ _ h (ap₂ ◌&&◌ (eq-eqb code 64 m) (ap not (ne_eqb second 0 k)))
@@ -56,7 +55,7 @@ module _ (byte j code second : ℕ) (r : Found) where
           pass _ _ _ _ (no-left _ _ (ne_eqb code 64 n)) (pass _ _ _ _ (ne_eqb code 64 n) (pass _ _ _ _ (no-left _ _ (ne_eqb code 65 m)) (pass _ _ _ _ (ne_eqb code 65 m) (pass _ _ _ _ (ne_eqb code 80 k) (pick _ _ _ _ h refl)))))
 
 -- ---- by its number
-module _ (byte j width k code wire second : ℕ) (r : Found) where
+module _ (byte j width k code wire second : ℕ) (r : Finding) where
   pub code-unknown : k ≡ 7 → r ≡ found Code j byte → r ≡ read_found byte j width k code wire second
   unfolding read_found
   code-unknown m h = pick _ _ _ _ h (eq-eqb k 7 m)
@@ -85,7 +84,7 @@ module _ (byte j width k code wire second : ℕ) (r : Found) where
         no-fault q h = pass _ _ _ _ (ne_eqb k 7 n) (pass _ _ _ _ (no-left _ _ (ne_eqb k 6 m)) (pass _ _ _ _ (ne_eqb k 6 m) (pass _ _ _ _ (ne_eqb k 2 p) (pass _ _ _ _ (ne_eqb k 3 q) (no_more _ h)))))
 
 -- ---- an item, read
-pub item-told : (at d width : ℕ) (bs : List ℕ) (j k : ℕ) (g : Reading) (r : Found) → g ≡ gate_read d (code_at bs j) (wire_at bs j) (get_or bs (3 * j + 2) 0) width → k ≡ number_of g
+pub item-told : (at d width : ℕ) (bs : List ℕ) (j k : ℕ) (g : Reading) (r : Finding) → g ≡ gate_read d (code_at bs j) (wire_at bs j) (get_or bs (3 * j + 2) 0) width → k ≡ number_of g
     → r ≡ read_found (at + 3 * j) j width k (code_at bs j) (wire_at bs j) (get_or bs (3 * j + 2) 0) → r ≡ item_found at d width bs j
 unfolding item_found item_at
 item-told at d width bs j k g r e n h = h ∙ ap (λ (m : ℕ). read_found (at + 3 * j) j width m (code_at bs j) (wire_at bs j) (get_or bs (3 * j + 2) 0)) (n ∙ ap number_of e)

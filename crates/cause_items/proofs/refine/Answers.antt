@@ -1,4 +1,5 @@
 -- `refine` meets its contract: by the number.
+use mathlib.Core.Path.{refl}
 use Rattle.cause_items.proofs.Laws.Ways.{code-unknown, first-wire, second-wire, same-wire, out_of_range, no-fault}
 use Rattle.cause_items.proofs.refine.Goals as goal
 
@@ -18,4 +19,4 @@ pub returns-then-k-eq-OUT_OF_RANGE : goal.returns-then-k-eq-OUT_OF_RANGE
 returns-then-k-eq-OUT_OF_RANGE c = let a = c.args in out_of_range a.byte a.j a.width a.k a.code a.wire a.second _ c.if-k-eq-UNKNOWN_CODE.false c.if-k-eq-BAD_WIRE.false c.if-k-eq-TWICE.false c.if-k-eq-OUT_OF_RANGE.true c.range.ensures
 
 pub returns : goal.returns
-returns c = let a = c.args in no-fault a.byte a.j a.width a.k a.code a.wire a.second _ c.if-k-eq-UNKNOWN_CODE.false c.if-k-eq-BAD_WIRE.false c.if-k-eq-TWICE.false c.if-k-eq-OUT_OF_RANGE.false c.sound.ensures
+returns c = let a = c.args in no-fault a.byte a.j a.width a.k a.code a.wire a.second _ c.if-k-eq-UNKNOWN_CODE.false c.if-k-eq-BAD_WIRE.false c.if-k-eq-TWICE.false c.if-k-eq-OUT_OF_RANGE.false refl

@@ -1,19 +1,16 @@
 -- The number of the first fault of a table's body is the body's: 11 exactly where its fields are at fault.
 use mathlib.Core.Bool.{Bool, true, false, cond, not, ◌||◌}
 use mathlib.Core.List.{List, [], ◌∷◌}
-use mathlib.Core.Logic.{◌≢◌}
-use mathlib.Core.Path.{◌≡◌, refl, sym, ap, ap₂, ◌∙◌}
+use mathlib.Core.Path.{◌≡◌, refl, ap, ◌∙◌}
 use Prim.Native.Nat.{ℕ, zero, suc, ◌+◌, ◌*◌, ◌^◌}
-use native.Mathlib.Omega.{arith}
 use lib.Dec.{eqb, ltb, leb}
 use lib.ListN.{length}
 use Rattle.state.specs.Number.{outside}
 use Rattle.contents.specs.Contents.{any_below}
 use Rattle.body_bytes.specs.Body.{mark_of, phase_of, power_of, tie_count, mask_of, side_of, size_fault, head_fault, turn_fault, row_fault, tie_fault, body_fault}
 use Rattle.cause.specs.declared.Cause.TheVariants.{TableWidth, Length, ManyTies, ZeroMark, Phase, PowerOut, Turn, Row, Mask, Side}
-use Rattle.cause.specs.declared.Found.{Found}
-use Rattle.cause.specs.Cause.{number_of, found, found_number, ◌finds◌, first_found, first_below, in_order}
-use Rattle.cause.proofs.Laws.First.{Plain, plain-first, plain-last, plain-order, else-number, order-number, order-last, order-end}
+use Rattle.cause.specs.Cause.{Finding, number_of, found, found_number, ◌finds◌, first_found, first_below, in_order}
+use Rattle.cause.proofs.Laws.First.{else-number, order-number, order-last}
 use Rattle.cause_table.specs.Table.{size_found, head_found, turn_found, row_found, tie_found, body_found}
 
 -- ---- each test
@@ -69,7 +66,7 @@ unfolding tie_found tie_fault
 tie-number from n bs j = tie-tests (leb (2 ^ n) (mask_of n bs j)) (ltb 1 (side_of n bs j)) j (from + (5 + 9 * n + 9 * j)) (from + (5 + 9 * n + 9 * j + 8))
 
 -- ---- the first of n
-below-number : (f : ℕ → Found) (t : ℕ → Bool) → ((v : ℕ) → found_number (f v) ≡ cond (t v) 11 0) → (n : ℕ) → found_number (first_below n f) ≡ cond (any_below n t) 11 0
+below-number : (f : ℕ → Finding) (t : ℕ → Bool) → ((v : ℕ) → found_number (f v) ≡ cond (t v) 11 0) → (n : ℕ) → found_number (first_below n f) ≡ cond (any_below n t) 11 0
 unfolding first_below any_below number_of
 below-number f t h zero = refl
 below-number f t h (suc n) = else-number (first_below n f) (f n) ∙ go (any_below n t) (t n) (below-number f t h n) (h n)
@@ -79,7 +76,7 @@ below-number f t h (suc n) = else-number (first_below n f) (f n) ∙ go (any_bel
     go false b {x} {y} p q = ap (λ (k : ℕ). cond (eqb k 0) y k) p ∙ q
 
 -- ---- all of them: a test before others whose number is 11 or 0
-before : (a b : Bool) (f : Found) (fs : List Found) → found_number f ≡ cond a 11 0 → found_number (in_order fs) ≡ cond b 11 0 → found_number (in_order (f ∷ fs)) ≡ cond (a || b) 11 0
+before : (a b : Bool) (f : Finding) (fs : List Finding) → found_number f ≡ cond a 11 0 → found_number (in_order fs) ≡ cond b 11 0 → found_number (in_order (f ∷ fs)) ≡ cond (a || b) 11 0
 before a b f fs p q = order-number f fs ∙ go a b p q
   where
     go : (a b : Bool) {x y : ℕ} → x ≡ cond a 11 0 → y ≡ cond b 11 0 → cond (eqb x 0) y x ≡ cond (a || b) 11 0
@@ -105,20 +102,3 @@ body-number from wat n bs =
     before a _ _ _ (size_number from wat n bs) (before b _ _ _ (head-number from bs) (before c _ _ _ (below-number (turn_found from bs) (turn_fault bs) (turn-number from bs) n)
     (before d _ _ _ (below-number (row_found from n bs) (row_fault n bs) (row_number from n bs) n) (before e false _ [] (below-number (tie_found from n bs) (tie_fault n bs) (tie-number from n bs) (tie_count n bs)) order-last))))
     ∙ ap (λ (t : Bool). cond t 11 0) (joined a b c d e)
-
--- ---- faults are faults
-pub plain_turn : (from : ℕ) (bs : List ℕ) (v : ℕ) → Plain (turn_found from bs v)
-unfolding turn_found number_of
-plain_turn from bs v = plain-first _ _ _ _ _ (λ z. omega arith) plain-last
-
-pub plain_row : (from n : ℕ) (bs : List ℕ) (v : ℕ) → Plain (row_found from n bs v)
-unfolding row_found number_of
-plain_row from n bs v = plain-first _ _ _ _ _ (λ z. omega arith) plain-last
-
-pub plain-tie : (from n : ℕ) (bs : List ℕ) (j : ℕ) → Plain (tie_found from n bs j)
-unfolding tie_found number_of
-plain-tie from n bs j = plain-first _ _ _ _ _ (λ z. omega arith) (plain-first _ _ _ _ _ (λ z. omega arith) plain-last)
-
-pub plain_body : (from wat n : ℕ) (bs : List ℕ) → Plain (body_found from wat n bs)
-unfolding body_found
-plain_body from wat n bs = plain-order _ _ (plain-order _ _ (plain-order _ _ (plain-order _ _ (plain-order _ _ (λ z. sym order-end)))))

@@ -1,30 +1,26 @@
 -- The first fault of a table's body on each way through the code.
 use mathlib.Core.Bool.{Bool, true, false, cond, not}
 use mathlib.Core.List.{List, []}
-use mathlib.Core.Logic.{◌≢◌, ⊎_elim}
+use mathlib.Core.Logic.{◌≢◌}
 use mathlib.Core.Path.{◌≡◌, refl, sym, ap, ◌∙◌}
 use Prim.Native.Nat.{ℕ, ◌+◌, ◌*◌, ◌^◌, ◌≤◌, ◌<◌}
 use native.Mathlib.Omega.{arith}
-use lib.Dec.{eqb, ltb, leb}
+use lib.Dec.{leb}
 use lib.ListN.{length}
 use borrow.Author.Tests.{eq-eqb, ne_eqb, lt-ltb, le-ltb}
-use Rattle.bits.proofs.Laws.Bit.{same_or}
 use Rattle.state.specs.Number.{outside}
-use Rattle.state.specs.Normal.{Normal}
-use Rattle.body_bytes.specs.Body.{mark_of, phase_of, power_of, turn_of, row_of, tie_count, mask_of, side_of, turn_fault, row_fault, body_fault}
+use Rattle.body_bytes.specs.Body.{mark_of, phase_of, power_of, turn_of, row_of, tie_count, mask_of, side_of, body_fault}
 use Rattle.body_bytes.proofs.Laws.Fault.{turn-high, turn_low, row-tested}
-use Rattle.body_read.specs.Table.{table_of}
 use Rattle.body_read.specs.declared.Reading.{Reading}
 use Rattle.body_read.specs.Read.{Reads}
 use Rattle.cause.specs.declared.Cause.TheVariants.{TableWidth, Length, ManyTies, ZeroMark, Phase, PowerOut, Turn, Row, Mask, Side, NotNormal}
-use Rattle.cause.specs.declared.Found.{Found}
-use Rattle.cause.specs.Cause.{number_of, found, sound, found_number, first_below}
-use Rattle.cause.proofs.Laws.First.{Plain, pick, pass, no_more, order-here, order-next, order-one, plain-below}
+use Rattle.cause.specs.Cause.{Finding, number_of, found, sound, found_number, first_below}
+use Rattle.cause.proofs.Laws.First.{pick, pass, no_more, order-here, order-next, order-one}
 use Rattle.cause_table.specs.Table.{size_found, head_found, turn_found, row_found, tie_found, body_found, TableFound}
-use Rattle.cause_table.proofs.Laws.Number.{plain-tie, body-number}
+use Rattle.cause_table.proofs.Laws.Number.{body-number}
 
 -- ---- width, length and tie count
-module _ (from wat n : ℕ) (bs : List ℕ) (r : Found) where
+module _ (from wat n : ℕ) (bs : List ℕ) (r : Finding) where
   pub size-wide : 64 < n → r ≡ found TableWidth 0 wat → r ≡ size_found from wat n bs
   unfolding size_found
   size-wide h e = pick _ _ _ _ e (lt-ltb 64 n h)
@@ -49,7 +45,7 @@ module _ (from wat n : ℕ) (bs : List ℕ) (r : Found) where
         size-sound h e = pass _ _ _ _ (le-ltb 64 n a) (pass _ _ _ _ (le-ltb (length bs) (5 + 9 * n) b) (pass _ _ _ _ (le-ltb n (tie_count n bs) c) (pass _ _ _ _ (ap not (eq-eqb (length bs) (5 + 9 * n + 9 * tie_count n bs) h)) (no_more _ e))))
 
 -- ---- zero mark, phase and power
-module _ (from : ℕ) (bs : List ℕ) (r : Found) where
+module _ (from : ℕ) (bs : List ℕ) (r : Finding) where
   pub head-mark : 1 < mark_of bs → r ≡ found ZeroMark 0 from → r ≡ head_found from bs
   unfolding head_found
   head-mark h e = pick _ _ _ _ e (lt-ltb 1 (mark_of bs) h)
@@ -69,7 +65,7 @@ module _ (from : ℕ) (bs : List ℕ) (r : Found) where
       head-sound h e = pass _ _ _ _ (le-ltb 1 (mark_of bs) a) (pass _ _ _ _ (le-ltb 7 (phase_of bs) b) (pass _ _ _ _ h (no_more _ e)))
 
 -- ---- a turn, a row, a tie
-module _ (from : ℕ) (bs : List ℕ) (v : ℕ) (r : Found) where
+module _ (from : ℕ) (bs : List ℕ) (v : ℕ) (r : Finding) where
   pub turn-out : 3 < turn_of bs v → r ≡ found Turn v (from + (4 + v)) → r ≡ turn_found from bs v
   unfolding turn_found
   turn-out h e = pick _ _ _ _ e (turn-high bs v h)
@@ -79,7 +75,7 @@ module _ (from : ℕ) (bs : List ℕ) (v : ℕ) (r : Found) where
   turn_in h = sym (pass _ (found Turn v (from + (4 + v))) sound [] (turn_low bs v h) (no_more sound refl))
 
 module _ (from n : ℕ) (bs : List ℕ) (v m : ℕ) (b : Bool) (is : m ≡ row_of n bs v) (t : b ≡ leb (2 ^ n) m) where
-  pub row_out : (r : Found) → b ≡ true → r ≡ found Row v (from + (4 + n + 8 * v)) → r ≡ row_found from n bs v
+  pub row_out : (r : Finding) → b ≡ true → r ≡ found Row v (from + (4 + n + 8 * v)) → r ≡ row_found from n bs v
   unfolding row_found
   row_out r h e = pick _ _ _ _ e (sym (row-tested n bs v m b is t) ∙ h)
 
@@ -87,7 +83,7 @@ module _ (from n : ℕ) (bs : List ℕ) (v m : ℕ) (b : Bool) (is : m ≡ row_o
   unfolding row_found
   row_in h = sym (pass _ (found Row v (from + (4 + n + 8 * v))) sound [] (sym (row-tested n bs v m b is t) ∙ h) (no_more sound refl))
 
-module _ (from n : ℕ) (bs : List ℕ) (j : ℕ) (r : Found) where
+module _ (from n : ℕ) (bs : List ℕ) (j : ℕ) (r : Finding) where
   pub tie-mask : leb (2 ^ n) (mask_of n bs j) ≡ true → r ≡ found Mask j (from + (5 + 9 * n + 9 * j)) → r ≡ tie_found from n bs j
   unfolding tie_found
   tie-mask h e = pick _ _ _ _ e h
@@ -102,7 +98,7 @@ module _ (from n : ℕ) (bs : List ℕ) (j : ℕ) (r : Found) where
     tie-sound h e = pass _ _ _ _ a (pass _ _ _ _ (le-ltb 1 (side_of n bs j) h) (no_more _ e))
 
 -- ---- the whole body
-module _ (from wat n : ℕ) (bs : List ℕ) (r : Found) where
+module _ (from wat n : ℕ) (bs : List ℕ) (r : Finding) where
   pub in_size : r ≡ size_found from wat n bs → found_number r ≢ 0 → r ≡ body_found from wat n bs
   unfolding body_found
   in_size e ne = order-here _ _ _ e ne
@@ -124,10 +120,10 @@ module _ (from wat n : ℕ) (bs : List ℕ) (r : Found) where
 
         pub in-ties : found_number (first_below n (row_found from n bs)) ≡ 0 → r ≡ first_below (tie_count n bs) (tie_found from n bs) → r ≡ body_found from wat n bs
         unfolding body_found
-        in-ties b e = order-next _ _ _ s (order-next _ _ _ h (order-next _ _ _ a (order-next _ _ _ b (e ∙ order-one (first_below (tie_count n bs) (tie_found from n bs)) (plain-below (tie_found from n bs) (plain-tie from n bs) (tie_count n bs))))))
+        in-ties b e = order-next _ _ _ s (order-next _ _ _ h (order-next _ _ _ a (order-next _ _ _ b (e ∙ order-one (first_below (tie_count n bs) (tie_found from n bs))))))
 
 -- ---- 11, then 12
-module _ (from wat n : ℕ) (bs : List ℕ) (r f : Found) (e : f ≡ body_found from wat n bs) where
+module _ (from wat n : ℕ) (bs : List ℕ) (r f : Finding) (e : f ≡ body_found from wat n bs) where
   eleven : (t : Bool) → body_fault n bs ≡ t → found_number f ≡ cond t 11 0
   eleven t h = ap found_number e ∙ body-number from wat n bs ∙ ap (λ (b : Bool). cond b 11 0) h
 

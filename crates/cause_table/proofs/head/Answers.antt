@@ -1,7 +1,7 @@
 -- `head` meets its contract: test by test.
 use borrow.Author.Rules.{rules}
 use native.Mathlib.Omega.{arith}
-use mathlib.Core.Path.{ap, sym, ◌∙◌}
+use mathlib.Core.Path.{refl, ap, sym, ◌∙◌}
 use mir.Facts.{to_z-of_z}
 use mir.Syntax.{w32}
 use mir.Val.{SFits}
@@ -19,4 +19,4 @@ pub returns-then-power_out : goal.returns-then-power_out
 returns-then-power_out c = let a = c.args in let f : SFits w32 c.power_of.result = search rules in head-power a.from a.bs.now _ (omega arith) (omega arith) (sym (c.power_out.ensures ∙ ap outside (to_z-of_z f ∙ c.power_of.ensures)) ∙ c.if-power_out.true) c.fault-then-power_out.ensures
 
 pub returns : goal.returns
-returns c = let a = c.args in let f : SFits w32 c.power_of.result = search rules in head-sound a.from a.bs.now _ (omega arith) (omega arith) (sym (c.power_out.ensures ∙ ap outside (to_z-of_z f ∙ c.power_of.ensures)) ∙ c.if-power_out.false) c.sound.ensures
+returns c = let a = c.args in let f : SFits w32 c.power_of.result = search rules in head-sound a.from a.bs.now _ (omega arith) (omega arith) (sym (c.power_out.ensures ∙ ap outside (to_z-of_z f ∙ c.power_of.ensures)) ∙ c.if-power_out.false) refl

@@ -1,4 +1,5 @@
 -- `size` meets its contract: test by test.
+use mathlib.Core.Path.{refl}
 use native.Mathlib.Omega.{arith}
 use Rattle.cause_table.proofs.Laws.Ways.{size-wide, size-short, size-ties, size-length, size-sound}
 use Rattle.cause_table.proofs.size.Goals as goal
@@ -16,4 +17,4 @@ pub returns-then-bs-least-2 : goal.returns-then-bs-least-2
 returns-then-bs-least-2 c = let a = c.args in size-length a.from a.listed a.width a.bs.now _ (omega arith) (omega arith) (omega arith) (λ z. c.if-bs-least-2.true (omega (arith, z, c.count_of-k.ensures))) c.fault-then-bs-least-2.ensures
 
 pub returns : goal.returns
-returns c = let a = c.args in size-sound a.from a.listed a.width a.bs.now _ (omega arith) (omega arith) (omega arith) (omega arith) c.sound.ensures
+returns c = let a = c.args in size-sound a.from a.listed a.width a.bs.now _ (omega arith) (omega arith) (omega arith) (omega arith) refl

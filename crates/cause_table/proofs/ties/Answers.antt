@@ -1,22 +1,25 @@
 -- `ties` meets its contract: no tie below j is at fault.
 use native.Mathlib.Omega.{arith}
-use mathlib.Core.Path.{sym, ap, ◌∙◌}
-use Prim.Native.Nat.{◌-◌}
+use mathlib.Core.Path.{sym, ◌∙◌}
 use Rattle.body_bytes.specs.Body.{tie_count}
-use Rattle.cause.specs.Cause.{sound, found_number}
-use Rattle.cause.proofs.Laws.First.{below-zero, below_next, below-here, below_none}
+use Rattle.std.proofs.lemmas.Result.{err_from_is_err_and}
+use Rattle.cause.proofs.Laws.First.{refused, below-zero, below_next, below-here, below_none}
 use Rattle.cause_table.specs.Table.{tie_found}
-use Rattle.cause_table.proofs.Laws.Number.{plain-tie}
 use Rattle.cause_table.proofs.ties.Goals as goal
 
 pub loop-j-init : goal.loop-j-init
-loop-j-init c = (omega arith, below-zero _)
+loop-j-init c = below-zero _
 
-pub returns-then-refusal-ne0 : goal.returns-then-refusal-ne0
-returns-then-refusal-ne0 c = let a = c.args in let l = c.loop-j in let f = tie_found a.from a.width a.bs.now in c.tie-f.ensures ∙ below-here f l.j (tie_count a.width a.bs.now) l.invariant.1 (omega (arith, c.count_of-k.ensures)) (λ z. c.if-refusal-ne0.true (c.refusal.ensures ∙ ap found_number c.tie-f.ensures ∙ z))
+pub returns-in_err-tie : goal.returns-in_err-tie
+returns-in_err-tie c =
+    let a = c.args in
+    let l = c.loop-j in
+    let p = err_from_is_err_and c.from_residual.result c.from_residual.ensures.1 in
+    let e = c.in_err-tie.ensures in
+    rw (p.1, p.2) (e ∙ below-here (tie_found a.from a.width a.bs.now) l.j (tie_count a.width a.bs.now) l.invariant (omega (arith, c.count_of-k.ensures)) (refused _ _ e))
 
 pub loop-j-preserved : goal.loop-j-preserved
-loop-j-preserved c = let a = c.args in let l = c.loop-j in let f = tie_found a.from a.width a.bs.now in (omega arith, below_next f l.j l.invariant.1 (plain-tie a.from a.width a.bs.now l.j (sym (ap found_number c.tie-f.ensures) ∙ sym c.refusal.ensures ∙ c.if-refusal-ne0.false)))
+loop-j-preserved c = let a = c.args in let l = c.loop-j in below_next (tie_found a.from a.width a.bs.now) l.j l.invariant (sym c.in_ok-tie.ensures)
 
 pub returns : goal.returns
-returns c = let a = c.args in let l = c.loop-j in let f = tie_found a.from a.width a.bs.now in c.sound.ensures ∙ below_none f l.j (tie_count a.width a.bs.now) l.invariant.1 (omega (arith, l.invariant.0, c.count_of-k.ensures)) (omega (arith, c.count_of-k.ensures))
+returns c = let a = c.args in let l = c.loop-j in let f = tie_found a.from a.width a.bs.now in below_none f l.j (tie_count a.width a.bs.now) l.invariant (omega (arith, c.count_of-k.ensures)) (omega (arith, c.count_of-k.ensures))

@@ -1,12 +1,8 @@
 -- `turns` meets its contract: no turn below v is out of range.
 use mathlib.Core.Path.{◌≡◌}
-use Prim.Native.Nat.{◌≤◌, ◌-◌}
 use Rattle.cause.specs.Cause.{sound, first_below}
 use Rattle.cause_table.specs.Table.{turn_found}
 use Rattle.cause_table.proofs.turns.Given as goal
 
 abbrev pub invariant-loop-v : goal.invariant-loop-v
-invariant-loop-v l = (l.v ≤ l.width) × (first_below l.v (turn_found l.from l.bs) ≡ sound)
-
-abbrev pub decreases-loop-v : goal.decreases-loop-v
-decreases-loop-v l = l.width - l.v
+invariant-loop-v l = first_below l.v (turn_found l.from l.bs) ≡ sound

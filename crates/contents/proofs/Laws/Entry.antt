@@ -1,13 +1,13 @@
--- An entry from its parts and from a part of the book, and its tests on each way through the code: by the truth of each test.
+-- An entry from its parts and from a part of the book, and what its tests say: by the truth of each test.
 use mathlib.Core.Path.{◌≡◌, refl, sym, ap, ◌∙◌}
 use mathlib.Core.Bool.{Bool, true, false, not, ◌||◌, cond, ◌&&◌}
 use mathlib.Core.List.{List}
-use Prim.Native.Nat.{ℕ, ◌+◌, ◌-◌, ◌*◌, ◌≤◌, ◌<◌}
+use Prim.Native.Nat.{ℕ, ◌+◌, ◌*◌, ◌≤◌}
 use native.Mathlib.Omega.{arith}
 use lib.Dec.{eqb, ltb}
 use lib.ListN.{length, drop}
 use lib.Seq.{get_or-drop}
-use borrow.Author.Tests.{lt-ltb, le-ltb, eq-eqb, ne_eqb, eqb-true, ltb-true, ltb-false, not-false}
+use borrow.Author.Tests.{le-ltb, eq-eqb, eqb-true, ltb-false, not-false}
 use Rattle.fields.specs.Bytes.{byte_at, number}
 use Rattle.fields.proofs.Laws.Number.{number-drop, number-beyond, byte-beyond}
 use Rattle.contents.specs.Contents.{Entry, kind_of, width_of, length_of, start_of, entry_of, good_kind, fault_at}
@@ -43,47 +43,6 @@ module _ (bs : List ℕ) (j : ℕ) where
       (sym (number-beyond 2 bs (4 + 8 * j + 2) (omega arith)))
 
 -- ---- an entry's tests
-module _ (ed k : ℕ) where
-  pub kind-one : k ≡ 1 → true ≡ good_kind ed k
-  unfolding good_kind
-  kind-one h = rw (eq-eqb k 1 h)
-
-  pub kind-two : (k ≡ 1 → ⊥) → k ≡ 2 → true ≡ good_kind ed k
-  unfolding good_kind
-  kind-two h z = rw (ne_eqb k 1 h, eq-eqb k 2 z)
-
-  -- edition 1 has no more
-  pub kind-first : (k ≡ 1 → ⊥) → (k ≡ 2 → ⊥) → (ed ≡ 2 → ⊥) → false ≡ good_kind ed k
-  unfolding good_kind
-  kind-first h z q = rw (ne_eqb k 1 h, ne_eqb k 2 z, ne_eqb ed 2 q)
-
-  pub kind-three : (k ≡ 1 → ⊥) → (k ≡ 2 → ⊥) → ed ≡ 2 → eqb k 3 ≡ good_kind ed k
-  unfolding good_kind
-  kind-three h z q = rw (ne_eqb k 1 h, ne_eqb k 2 z, eq-eqb ed 2 q)
-
-module _ (ed : ℕ) (e : Entry) (from size : ℕ) where
-  pub fault-kind : good_kind ed e.kind ≡ false → true ≡ fault_at ed e from size
-  unfolding fault_at
-  fault-kind h = rw h
-
-  module _ (a : good_kind ed e.kind ≡ true) where
-    pub fault-start : (e.start ≡ from → ⊥) → true ≡ fault_at ed e from size
-    unfolding fault_at
-    fault-start h = rw (a, ne_eqb e.start from h)
-
-    module _ (b : e.start ≡ from) where
-      pub fault-beyond : size < e.start → true ≡ fault_at ed e from size
-      unfolding fault_at
-      fault-beyond h = rw (a, eq-eqb e.start from b, lt-ltb size (e.start + e.length) (omega arith))
-
-      pub fault-end : e.start ≤ size → ltb (size - e.start) e.length ≡ fault_at ed e from size
-      unfolding fault_at
-      fault-end h = rw (a, eq-eqb e.start from b) (go (ltb (size - e.start) e.length) refl)
-        where
-          go : (t : Bool) → ltb (size - e.start) e.length ≡ t → t ≡ ltb size (e.start + e.length)
-          go true q = sym (lt-ltb size (e.start + e.length) (omega (arith, ltb-true (size - e.start) e.length q)))
-          go false q = sym (le-ltb size (e.start + e.length) (omega (arith, ltb-false (size - e.start) e.length q)))
-
 -- what an entry that is not refused says
 pub fault-none : (ed : ℕ) (e : Entry) (from size : ℕ) → fault_at ed e from size ≡ false → (good_kind ed e.kind ≡ true) × (e.start ≡ from) × (e.start + e.length ≤ size)
 unfolding fault_at

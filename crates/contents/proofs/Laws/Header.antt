@@ -1,45 +1,20 @@
--- The header's test on each way through the code, and what a header that is not refused says: by the truth of each test.
+-- The header's test where all but the count is good, and what a header that is not refused says: by the truth of each test.
 use mathlib.Core.Path.{◌≡◌}
 use mathlib.Core.Bool.{true, false, not, ◌||◌}
 use mathlib.Core.List.{List}
-use Prim.Native.Nat.{ℕ, ◌≤◌, ◌<◌}
+use Prim.Native.Nat.{ℕ, ◌≤◌}
 use lib.Dec.{eqb, ltb}
 use lib.ListN.{length}
-use borrow.Author.Tests.{lt-ltb, le-ltb, eq-eqb, ne_eqb, ltb-false}
+use borrow.Author.Tests.{le-ltb, eq-eqb, ltb-false}
 use Rattle.editions.specs.Edition.{good_edition}
 use Rattle.fields.specs.Bytes.{byte_at}
 use Rattle.contents.specs.Contents.{edition_of, count_of, header_fault}
 use Rattle.contents.proofs.Laws.Some.{or-no-left, or-no-right}
 
-module _ (bs : List ℕ) where
-  pub header-short : length bs < 4 → true ≡ header_fault bs
-  unfolding header_fault
-  header-short h = rw (lt-ltb (length bs) 4 h)
-
-  module _ (a : 4 ≤ length bs) where
-    pub header-long : 60000 < length bs → true ≡ header_fault bs
-    unfolding header_fault
-    header-long h = rw (le-ltb (length bs) 4 a, lt-ltb 60000 (length bs) h)
-
-    module _ (b : length bs ≤ 60000) where
-      pub header-first : (byte_at bs 0 ≡ 0x51 → ⊥) → true ≡ header_fault bs
-      unfolding header_fault
-      header-first h = rw (le-ltb (length bs) 4 a, le-ltb 60000 (length bs) b, ne_eqb (byte_at bs 0) 0x51 h)
-
-      module _ (c : byte_at bs 0 ≡ 0x51) where
-        pub header-second : (byte_at bs 1 ≡ 0x4E → ⊥) → true ≡ header_fault bs
-        unfolding header_fault
-        header-second h = rw (le-ltb (length bs) 4 a, le-ltb 60000 (length bs) b, eq-eqb (byte_at bs 0) 0x51 c, ne_eqb (byte_at bs 1) 0x4E h)
-
-        module _ (d : byte_at bs 1 ≡ 0x4E) where
-          pub header-edition : good_edition (edition_of bs) ≡ false → true ≡ header_fault bs
-          unfolding header_fault
-          header-edition h = rw (le-ltb (length bs) 4 a, le-ltb 60000 (length bs) b, eq-eqb (byte_at bs 0) 0x51 c, eq-eqb (byte_at bs 1) 0x4E d, h)
-
-          module _ (e : good_edition (edition_of bs) ≡ true) where
-            pub header-count : ltb 16 (byte_at bs 3) ≡ header_fault bs
-            unfolding header_fault count_of
-            header-count = rw (le-ltb (length bs) 4 a, le-ltb 60000 (length bs) b, eq-eqb (byte_at bs 0) 0x51 c, eq-eqb (byte_at bs 1) 0x4E d, e)
+-- the count decides where all that stands before it is good
+pub header-count : (bs : List ℕ) → 4 ≤ length bs → length bs ≤ 60000 → byte_at bs 0 ≡ 0x51 → byte_at bs 1 ≡ 0x4E → good_edition (edition_of bs) ≡ true → ltb 16 (byte_at bs 3) ≡ header_fault bs
+unfolding header_fault count_of
+header-count bs a b c d e = rw (le-ltb (length bs) 4 a, le-ltb 60000 (length bs) b, eq-eqb (byte_at bs 0) 0x51 c, eq-eqb (byte_at bs 1) 0x4E d, e)
 
 -- what a header that is not refused says
 pub header-small : (bs : List ℕ) → header_fault bs ≡ false → (4 ≤ length bs) × (length bs ≤ 60000) × (count_of bs ≤ 16)

@@ -2,7 +2,7 @@
 use mathlib.Core.Path.{◌≡◌, sym, ap, ◌∙◌}
 use mathlib.Core.Bool.{false, not}
 use borrow.Author.Tests.{eq-eqb, ne_eqb}
-use Prim.Native.Nat.{ℕ, ◌+◌, ◌-◌, ◌*◌}
+use Prim.Native.Nat.{ℕ, ◌+◌, ◌*◌}
 use native.Mathlib.Omega.{arith}
 use lib.ListN.{length}
 use Rattle.contents.specs.Contents.{header_fault, entry_fault}
@@ -55,12 +55,6 @@ overflow_add-at c =
     let bs = c.args.bs.now in
     let none = fault-none c.edition-edition.result e l.at (length bs) (sym f.ensures ∙ c.if-fault_at.false) in
     omega (arith, none.1, none.2)
-
-pub overflow_add-j : goal.overflow_add-j
-overflow_add-j c = omega arith
-
-pub loop-j-smaller : goal.loop-j-smaller
-loop-j-smaller c = omega arith
 
 pub loop-j-preserved : goal.loop-j-preserved
 loop-j-preserved c =

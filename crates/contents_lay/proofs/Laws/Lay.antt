@@ -1,4 +1,4 @@
--- The number that refuses lists to lay: what it is on each way through the code, and what the number 0 says of the lists.
+-- The number that refuses lists to lay: what it is by the truth of each test, and what the number 0 says of the lists.
 use mathlib.Core.Path.{◌≡◌, refl}
 use mathlib.Core.Bool.{Bool, true, false, not, ◌||◌}
 use mathlib.Core.List.{List}
@@ -6,50 +6,29 @@ use Prim.Native.Nat.{ℕ, ◌+◌, ◌*◌, ◌≤◌, ◌<◌}
 use native.Mathlib.Omega.{arith}
 use lib.Dec.{eqb, ltb}
 use lib.ListN.{length}
-use borrow.Author.Tests.{lt-ltb, le-ltb, eq-eqb, ne_eqb, eqb-true, ltb-true, ltb-false, not-false}
+use borrow.Author.Tests.{lt-ltb, le-ltb, eq-eqb, eqb-true, ltb-true, ltb-false, not-false}
 use Rattle.editions.specs.Edition.{good_edition}
 use Rattle.contents.specs.Contents.{any_below}
 use Rattle.contents_lay.specs.Lay.{laid_start, too_many, bad_kind, bad_lists, lay_number}
 use Rattle.contents.proofs.Laws.Some.{or-no-left, or-no-right}
 
 module _ (ks ws ls : List ℕ) where
-  pub many-kinds : 16 < length ks → too_many ks ws ls ≡ true
+  -- none of the lists is of more than 16
+  pub few : too_many ks ws ls ≡ false → (length ks ≤ 16) × (length ws ≤ 16) × (length ls ≤ 16)
   unfolding too_many
-  many-kinds h = rw (lt-ltb 16 (length ks) h)
-
-  pub many-widths : length ks ≤ 16 → 16 < length ws → too_many ks ws ls ≡ true
-  unfolding too_many
-  many-widths a h = rw (le-ltb 16 (length ks) a, lt-ltb 16 (length ws) h)
-
-  pub many-lengths : length ks ≤ 16 → length ws ≤ 16 → 16 < length ls → too_many ks ws ls ≡ true
-  unfolding too_many
-  many-lengths a b h = rw (le-ltb 16 (length ks) a, le-ltb 16 (length ws) b, lt-ltb 16 (length ls) h)
+  few e =
+      let k = ltb 16 (length ks) in
+      let w = ltb 16 (length ws) in
+      let l = ltb 16 (length ls) in
+      (ltb-false 16 (length ks) (or-no-left k w (or-no-left (k || w) l e)), ltb-false 16 (length ws) (or-no-right k w (or-no-left (k || w) l e)), ltb-false 16 (length ls) (or-no-right (k || w) l e))
 
   pub many-none : length ks ≤ 16 → length ws ≤ 16 → length ls ≤ 16 → too_many ks ws ls ≡ false
   unfolding too_many
   many-none a b c = rw (le-ltb 16 (length ks) a, le-ltb 16 (length ws) b, le-ltb 16 (length ls) c)
 
-  pub bad-widths : (ed : ℕ) → (length ws ≡ length ks → ⊥) → bad_lists ed ks ws ls ≡ true
+  pub bad-none : length ws ≡ length ks → length ls ≡ length ks → (ed : ℕ) → any_below (length ks) (bad_kind ed ks) ≡ false → laid_start ls (length ls) ≤ 60000 → bad_lists ed ks ws ls ≡ false
   unfolding bad_lists
-  bad-widths ed h = rw (ne_eqb (length ws) (length ks) h)
-
-  module _ (a : length ws ≡ length ks) where
-    pub bad-lengths : (ed : ℕ) → (length ls ≡ length ks → ⊥) → bad_lists ed ks ws ls ≡ true
-    unfolding bad_lists
-    bad-lengths ed h = rw (eq-eqb (length ws) (length ks) a, ne_eqb (length ls) (length ks) h)
-
-    module _ (b : length ls ≡ length ks) where
-      pub bad-kinds : (ed : ℕ) → any_below (length ks) (bad_kind ed ks) ≡ true → bad_lists ed ks ws ls ≡ true
-      unfolding bad_lists
-      bad-kinds ed h = rw (eq-eqb (length ws) (length ks) a, eq-eqb (length ls) (length ks) b, h)
-
-      pub bad-total : (ed : ℕ) → any_below (length ks) (bad_kind ed ks) ≡ false → 60000 < laid_start ls (length ls) → bad_lists ed ks ws ls ≡ true
-      unfolding bad_lists
-      bad-total ed s h = rw (eq-eqb (length ws) (length ks) a, eq-eqb (length ls) (length ks) b, s, lt-ltb 60000 (laid_start ls (length ls)) h)
-
-      pub bad-none : (ed : ℕ) → any_below (length ks) (bad_kind ed ks) ≡ false → laid_start ls (length ls) ≤ 60000 → bad_lists ed ks ws ls ≡ false
-      unfolding bad_lists
-      bad-none ed s h = rw (eq-eqb (length ws) (length ks) a, eq-eqb (length ls) (length ks) b, s, le-ltb 60000 (laid_start ls (length ls)) h)
+  bad-none a b ed s h = rw (eq-eqb (length ws) (length ks) a, eq-eqb (length ls) (length ks) b, s, le-ltb 60000 (laid_start ls (length ls)) h)
 
   module _ (room ed : ℕ) where
     pub lay-edition : good_edition ed ≡ false → 9 ≡ lay_number room ed ks ws ls

@@ -1,6 +1,5 @@
 -- `book_size` meets its contract: the invariant is of where body i starts.
 use mathlib.Core.Path.{◌≡◌, ap, ◌∙◌}
-use Prim.Native.Nat.{◌-◌}
 use native.Mathlib.Omega.{arith}
 use lib.ListN.{length}
 use Rattle.contents_lay.specs.Lay.{laid_start}
@@ -27,12 +26,6 @@ overflow_cast-size c = omega (arith, c.type_inv.lengths c.loop-i.i)
 
 pub overflow_add-size-in-loop-i : goal.overflow_add-size-in-loop-i
 overflow_add-size-in-loop-i c = omega (arith, c.type_inv.lengths c.loop-i.i)
-
-pub overflow_add-i : goal.overflow_add-i
-overflow_add-i c = omega arith
-
-pub loop-i-smaller : goal.loop-i-smaller
-loop-i-smaller c = omega arith
 
 pub loop-i-preserved : goal.loop-i-preserved
 loop-i-preserved c =

@@ -1,7 +1,7 @@
 -- `write_entries` meets its contract: the invariant is of the entries written and of where body j starts.
 use mathlib.Core.Path.{◌≡◌, refl, ap, ◌∙◌}
 use mathlib.Core.List.{◌++◌}
-use Prim.Native.Nat.{ℕ, ◌+◌, ◌-◌, ◌*◌}
+use Prim.Native.Nat.{ℕ, ◌-◌, ◌*◌}
 use native.Mathlib.Omega.{arith}
 use lib.ListN.{length, get_or, length-drop}
 use borrow.Rule.Slice.PartMut.{same_len_mid}
@@ -55,12 +55,6 @@ overflow_cast-start c = omega (arith, c.shared_slice_known-3-1.given c.loop-j.j)
 
 pub overflow_add-start-in-loop-j : goal.overflow_add-start-in-loop-j
 overflow_add-start-in-loop-j c = omega (arith, c.shared_slice_known-3-1.given c.loop-j.j)
-
-pub overflow_add-j : goal.overflow_add-j
-overflow_add-j c = omega arith
-
-pub loop-j-smaller : goal.loop-j-smaller
-loop-j-smaller c = omega arith
 
 pub loop-j-preserved : goal.loop-j-preserved
 loop-j-preserved c =

@@ -1,6 +1,6 @@
 -- `write_entries` meets its contract: the invariant is of the entries written and of where body j starts.
 use mathlib.Core.Path.{◌≡◌}
-use Prim.Native.Nat.{◌≤◌, ◌+◌, ◌-◌, ◌*◌}
+use Prim.Native.Nat.{◌≤◌, ◌+◌, ◌*◌}
 use lib.ListN.{length}
 use Rattle.fields.specs.Bytes.{front}
 use Rattle.contents_lay.specs.Lay.{laid_start, entries_bytes}
@@ -13,6 +13,3 @@ invariant-loop-j l =
     × (l.start ≡ laid_start l.lengths l.j)
     × (l.start ≤ 132 + 65535 * l.j)
     × (l.part ≡ front l.initial.part (entries_bytes l.kinds l.widths l.lengths l.j))
-
-abbrev pub decreases-loop-j : goal.decreases-loop-j
-decreases-loop-j l = length l.kinds - l.j

@@ -3,7 +3,9 @@ use mathlib.Core.List.{[]}
 use mathlib.Core.Logic.{◌≢◌}
 use mathlib.Core.Path.{◌≡◌, refl, sym, ap, ◌∙◌}
 use Prim.Native.Nat.{ℕ}
-use Rattle.exact.specs.Answer.{number_of}
+use Rattle.std.specs.Prelude.{Result, Ok, Err}
+use Rattle.exact.specs.declared.Refusal.{Refusal}
+use Rattle.exact.specs.Code.{code_of, refusal_in}
 use Rattle.exact.specs.declared.Amount.{Amount}
 use Rattle.exact.specs.declared.Amount.TheVariants.{Some}
 use Rattle.exact.specs.Refusal.{accepted}
@@ -14,8 +16,6 @@ use Rattle.call_answers.specs.Answers.{EntryAt}
 use Rattle.doubles.specs.Answer.{Doubles, Answer, answer, parts_of, answer_of}
 use Rattle.doubles.specs.Inner.Answer.{answer_for}
 use Rattle.doubles.specs.Entry.{DoublesAt}
-use Rattle.exact.specs.declared.Answer.{Answer as Asked}
-use Rattle.exact.specs.declared.Answer.TheVariants.{Refused as NotGiven, Is as Given}
 use Rattle.exact.specs.declared.Amount.TheVariants.{Zero as NoAmount}
 
 -- an amount's answer is no refusal
@@ -25,23 +25,23 @@ amount-number NoAmount = refl
 amount-number (Some s c) = refl
 
 -- the number is the answer's own
-kept-number : (a : Asked) → (answer_for a).number ≡ number_of a
+kept-number : (a : Result Amount Refusal) → (answer_for a).number ≡ refusal_in a
 unfolding answer_for
-kept-number (NotGiven k) = refl
-kept-number (Given a) = amount-number a
+kept-number (Err k) = refl
+kept-number (Ok a) = amount-number a
 
 -- a refusal has no values
-no-values : (a : Asked) → number_of a ≢ accepted → (answer_for a).values ≡ []
+no-values : (a : Result Amount Refusal) → refusal_in a ≢ accepted → (answer_for a).values ≡ []
 unfolding answer_for
-no-values (NotGiven k) ne = refl
-no-values (Given a) ne = absurd (ne refl)
+no-values (Err k) ne = refl
+no-values (Ok a) ne = absurd (ne refl)
 
-given-values : (a : Amount) → answer_for (Given a) ≡ answer_of a
+given-values : (a : Amount) → answer_for (Ok a) ≡ answer_of a
 unfolding answer_for
 given-values a = refl
 
 module _ (t : State) (x : ℕ) where
-  pub doubles-at : (a : Asked) (r : Doubles) → EntryAt t x a → answer r ≡ answer_for a → DoublesAt t x r
+  pub doubles-at : (a : Result Amount Refusal) (r : Doubles) → EntryAt t x a → answer r ≡ answer_for a → DoublesAt t x r
   doubles-at a r w e =
       record {
         broken = λ h. number ∙ w.broken h;
@@ -50,5 +50,5 @@ module _ (t : State) (x : ℕ) where
         done = λ d. e ∙ ap answer_for (w.done (sym number ∙ d)) ∙ given-values (entry t (bit x));
       }
     where
-      number : (answer r).number ≡ number_of a
+      number : (answer r).number ≡ refusal_in a
       number = ap (λ (q : Answer). q.number) e ∙ kept-number a

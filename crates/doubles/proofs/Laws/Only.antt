@@ -5,6 +5,7 @@ use Prim.Native.Nat.{ℕ}
 use native.Mathlib.Omega.{arith}
 use lib.Ieee.{Float}
 use Rattle.exact.specs.declared.Amount.{Amount}
+use Rattle.exact.proofs.Laws.Code.{code-only}
 use Rattle.doubles.specs.Answer.{Doubles, Refused, Zero, Value, Answer, answer, answer_of}
 use mathlib.Core.List.{List, []}
 use mathlib.Core.Logic.{◌≢◌, ⊎_elim}
@@ -31,7 +32,7 @@ values_of a b e = ap (λ (x : Answer). x.values) e
 
 pub same_answer : (x y : Doubles) → answer x ≡ answer y → x ≡ y
 unfolding answer
-same_answer (Refused k) (Refused j) e = ap Refused (ap (λ (a : Answer). a.number) e)
+same_answer (Refused k) (Refused j) e = ap Refused (code-only k j (ap (λ (a : Answer). a.number) e))
 same_answer (Refused k) Zero e = absurd (none-one _ (values_of _ _ e))
 same_answer (Refused k) (Value x y) e = absurd (none-two _ _ (values_of _ _ e))
 same_answer Zero (Refused k) e = absurd (none-one _ (sym (values_of _ _ e)))

@@ -7,17 +7,11 @@ use Rattle.doubles.proofs.repeat.Goals as goal
 
 pub loop-i-init : goal.loop-i-init
 unfolding repeated
-loop-i-init c = (omega arith, refl)
-
-pub overflow_add-i : goal.overflow_add-i
-overflow_add-i c = omega arith
-
-pub loop-i-smaller : goal.loop-i-smaller
-loop-i-smaller c = omega arith
+loop-i-init c = refl
 
 pub loop-i-preserved : goal.loop-i-preserved
 unfolding repeated
-loop-i-preserved c = (omega arith, rw (add-one, c.loop-i.invariant.1))
+loop-i-preserved c = rw (add-one, c.loop-i.invariant)
 
 pub returns : goal.returns
-returns c = let e : c.loop-i.i ≡ c.args.n = omega arith in c.loop-i.invariant.1 ∙ ap (repeated c.args.x c.args.factor) e
+returns c = let e : c.loop-i.i ≡ c.args.n = omega arith in c.loop-i.invariant ∙ ap (repeated c.args.x c.args.factor) e

@@ -1,11 +1,7 @@
 -- `doubles::repeat` meets its contract: the invariant says that r has had i of the products.
 use mathlib.Core.Path.{◌≡◌}
-use Prim.Native.Nat.{◌≤◌, ◌-◌}
 use Rattle.doubles.specs.Inner.Steps.{repeated}
 use Rattle.doubles.proofs.repeat.Given as goal
 
 abbrev pub invariant-loop-i : goal.invariant-loop-i
-invariant-loop-i l = (l.i ≤ l.n) × (l.r ≡ repeated l.x l.factor l.i)
-
-abbrev pub decreases-loop-i : goal.decreases-loop-i
-decreases-loop-i l = l.n - l.i
+invariant-loop-i l = l.r ≡ repeated l.x l.factor l.i

@@ -8,6 +8,6 @@ pub returns-then-u-eq0 : goal.returns-then-u-eq0
 unfolding start_at of_bits
 returns-then-u-eq0 c = rw (eq-eqb _ _ c.if-u-eq0.true)
 
-pub returns : goal.returns
+pub returns-else-u-eq0 : goal.returns-else-u-eq0
 unfolding start_at of_bits
-returns c = rw (ne_eqb _ _ c.if-u-eq0.false)
+returns-else-u-eq0 c = rw (ne_eqb _ _ c.if-u-eq0.false)

@@ -1,10 +1,11 @@
 -- The answer by the steps of the code.
-use Rattle.std.specs.Prelude.{[]}
+use Rattle.std.specs.Prelude.{[], Result, Ok, Err}
 use Rattle.doubles.specs.Answer.{Answer, answer_of}
-use Rattle.exact.specs.declared.Answer.{Answer as Asked}
-use Rattle.exact.specs.declared.Answer.TheVariants.{Refused as NotGiven, Is as Given}
+use Rattle.exact.specs.declared.Amount.{Amount}
+use Rattle.exact.specs.declared.Refusal.{Refusal}
+use Rattle.exact.specs.Code.{code_of}
 
 -- a refusal's number, or the amount's answer
-unfoldable pub answer_for : Asked → Answer
-answer_for (NotGiven k) = record { number = k; values = [] }
-answer_for (Given a) = answer_of a
+unfoldable pub answer_for : Result Amount Refusal → Answer
+answer_for (Err r) = record { number = code_of r; values = [] }
+answer_for (Ok a) = answer_of a

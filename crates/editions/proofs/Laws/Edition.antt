@@ -1,19 +1,11 @@
--- The test of an edition on each way through the code, and what a good one is: by the truth of each comparison.
+-- What a good edition is: by the truth of each comparison.
 use mathlib.Core.Path.{◌≡◌, refl, sym, ap, ◌∙◌}
 use mathlib.Core.Bool.{Bool, true, false, ◌||◌}
 use mathlib.Core.Logic.{◌⊎◌, inl, inr}
 use Prim.Native.Nat.{ℕ}
 use lib.Dec.{eqb}
-use borrow.Author.Tests.{eq-eqb, ne_eqb, eqb-true}
+use borrow.Author.Tests.{eqb-true}
 use Rattle.editions.specs.Edition.{good_edition}
-
-pub edition-one : (e : ℕ) → e ≡ 1 → true ≡ good_edition e
-unfolding good_edition
-edition-one e h = rw (eq-eqb e 1 h)
-
-pub edition-two : (e : ℕ) → (e ≡ 1 → ⊥) → eqb e 2 ≡ good_edition e
-unfolding good_edition
-edition-two e h = rw (ne_eqb e 1 h)
 
 pub edition-cases : (e : ℕ) → good_edition e ≡ true → (e ≡ 1) ⊎ (e ≡ 2)
 unfolding good_edition

@@ -1,13 +1,13 @@
 -- Numbers read from bytes: bounds, equal bytes, what was written is read back, and the other way round. By induction on the count of bytes.
-use mathlib.Core.Path.{◌≡◌, refl, sym, ap, ap₂, ◌∙◌, subst}
+use mathlib.Core.Path.{◌≡◌, refl, sym, ap, ap₂, ◌∙◌}
 use mathlib.Core.List.{List, [], ◌∷◌}
-use Prim.Native.Nat.{ℕ, zero, suc, ◌+◌, ◌-◌, ◌*◌, ◌/◌, ◌%◌, ◌^◌, ◌≤◌, ◌<◌}
-use native.Mathlib.Nat.{pow-suc, add-zero, sub-zero, pow-le-pow_right, lt_of_lt_of_le}
+use Prim.Native.Nat.{ℕ, zero, suc, ◌+◌, ◌*◌, ◌/◌, ◌%◌, ◌^◌, ◌≤◌, ◌<◌}
+use native.Mathlib.Nat.{pow-suc, add-zero}
 use native.Mathlib.Omega.{arith}
 use lib.ListN.{length, take, drop, get_or-eq_default}
 use lib.Seq.{drop-cons, get_or-drop, get_or-take}
 use Rattle.fields.specs.Bytes.{byte_at, le, number, front}
-use Rattle.fields.specs.Inner.Bytes.{of_le, Stated}
+use Rattle.fields.specs.Inner.Bytes.{of_le}
 use Rattle.fields.proofs.Laws.Front.{length-le, take-front}
 
 pub byte-beyond : (bs : List ℕ) (i : ℕ) → length bs ≤ i → 0 ≡ byte_at bs i
@@ -81,29 +81,3 @@ le-number (suc k) bs at h b =
     ap₂ (λ (y z : ℕ). y ∷ le k z) lo hi
     ∙ ap (λ (l : List ℕ). byte_at bs at ∷ l) (le-number k bs (suc at) (omega arith) b)
     ∙ ap (take (suc k)) (sym (drop-cons bs at 0 (omega arith)))
-
--- ---- the loop that reads from the highest byte down: before it, a turn in which the byte b stands at i - 1, and after it
-module _ (s : List ℕ) (at k : ℕ) where
-  pub number-starts : (0 ≡ number (k - k) s (at + k)) × (0 < 256 ^ (k - k))
-  unfolding number
-  number-starts =
-      let e : k - k ≡ 0 = omega arith in
-      (ap (λ (j : ℕ). number j s (at + k)) (sym e), subst (λ (j : ℕ). 0 < 256 ^ j) (sym e) (omega arith))
-
-  pub number-turn : (i x b : ℕ) → 0 < i → i ≤ k → x ≡ number (k - i) s (at + i) → x < 256 ^ (k - i) → b ≡ byte_at s (at + (i - 1)) → b < 256
-      → (i - 1 ≤ k) × (x * 256 + b ≡ number (k - (i - 1)) s (at + (i - 1))) × (x * 256 + b < 256 ^ (k - (i - 1)))
-  unfolding number
-  number-turn i x b p h e f g m =
-      let n : k - (i - 1) ≡ suc (k - i) = omega arith in
-      let q : at + i ≡ suc (at + (i - 1)) = omega arith in
-      let w : x ≡ number (k - i) s (suc (at + (i - 1))) = e ∙ ap (number (k - i) s) q in
-      let t : x * 256 + b ≡ number (suc (k - i)) s (at + (i - 1)) = omega arith in
-      let u : x * 256 + b < 256 ^ suc (k - i) = rw (pow-suc 256 (k - i)) (omega arith) in
-      (omega arith, t ∙ ap (λ (j : ℕ). number j s (at + (i - 1))) (sym n), rw n u)
-
-  pub number-ends : (i x : ℕ) → i ≤ 0 → x ≡ number (k - i) s (at + i) → x < 256 ^ (k - i) → Stated k s at x
-  number-ends zero x h e f = record { is = e ∙ ap₂ (λ (j m : ℕ). number j s m) (sub-zero k) (add-zero at); small = rw (sub-zero k) at f }
-  number-ends (suc i) x h e f = absurd (omega arith)
-
-pub number_small : (x k : ℕ) → x < 256 ^ k → k ≤ 7 → x < 256 ^ 7
-number_small x k h l = lt_of_lt_of_le h (pow-le-pow_right (omega arith) l)

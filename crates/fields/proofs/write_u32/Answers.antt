@@ -1,9 +1,10 @@
--- `write_u32` meets its contract: nothing where the part is too short, else the bytes of the number.
-use Rattle.fields.proofs.Laws.Put.{put-short, put-fits}
+-- `write_u32` meets its contract: the library's order of the bytes is the documents'.
+use mathlib.Core.Path.{◌∙◌, subst}
+use mathlib.Core.List.{List}
+use Prim.Native.Nat.{ℕ}
+use Rattle.fields.specs.Inner.Bytes.{Put}
+use Rattle.fields.proofs.Laws.Order.{le-bytes}
 use Rattle.fields.proofs.write_u32.Goals as goal
 
-pub returns-then-part-lt4 : goal.returns-then-part-lt4
-returns-then-part-lt4 c = put-short 4 _ _ c.if-part-lt4.true
-
 pub returns : goal.returns
-returns c = put-fits 4 _ _ _ c.if-part-lt4.false c.write_number.ensures
+returns c = subst (λ (bs : List ℕ). Put 4 bs c.args.part.now c.put.new.part) (c.to_le_bytes.ensures ∙ le-bytes 4 c.args.v) c.put.ensures

@@ -1,9 +1,10 @@
--- `write_u64` meets its contract: nothing where the part is too short, else the bytes of the number.
-use Rattle.fields.proofs.Laws.Put.{put-short, put-fits}
+-- `write_u64` meets its contract: the library's order of the bytes is the documents'.
+use mathlib.Core.Path.{◌∙◌, subst}
+use mathlib.Core.List.{List}
+use Prim.Native.Nat.{ℕ}
+use Rattle.fields.specs.Inner.Bytes.{Put}
+use Rattle.fields.proofs.Laws.Order.{le-bytes}
 use Rattle.fields.proofs.write_u64.Goals as goal
 
-pub returns-then-part-lt8 : goal.returns-then-part-lt8
-returns-then-part-lt8 c = put-short 8 _ _ c.if-part-lt8.true
-
 pub returns : goal.returns
-returns c = put-fits 8 _ _ _ c.if-part-lt8.false c.write_number.ensures
+returns c = subst (λ (bs : List ℕ). Put 8 bs c.args.part.now c.put.new.part) (c.to_le_bytes.ensures ∙ le-bytes 8 c.args.v) c.put.ensures

@@ -13,7 +13,7 @@ use Rattle.state.specs.Normal.{Normal}
 use Rattle.labels.specs.declared.Labels.{Labels}
 use Rattle.labels.specs.Labels.{no_labels, Proper}
 use Rattle.body_bytes.specs.Body.{mark_of}
-use Rattle.image.specs.Image.{image_size, image_bytes, Images}
+use Rattle.image.specs.Image.{image_size, Images}
 use Rattle.image.specs.Inner.Stated.{state_of, labels_of}
 use Rattle.image.proofs.Laws.Signed.{mark-small}
 use Rattle.image.proofs.Laws.Bytes.{length-image}

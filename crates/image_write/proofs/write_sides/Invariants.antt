@@ -1,7 +1,6 @@
 -- `write_sides` meets its contract: the fields below i are written.
 use mathlib.Core.List.{[], ◌∷◌}
 use mathlib.Core.Path.{◌≡◌}
-use Prim.Native.Nat.{◌≤◌, ◌-◌}
 use lib.ListN.{length}
 use Rattle.fields.specs.Bytes.{front}
 use Rattle.ties.specs.Ties.{side_at}
@@ -9,7 +8,4 @@ use Rattle.body_fields.specs.Fields.{joined}
 use Rattle.image_write.proofs.write_sides.Given as goal
 
 abbrev pub invariant-loop-j : goal.invariant-loop-j
-invariant-loop-j l = (l.j ≤ 64) × (length l.part ≡ length l.initial.part) × (l.part ≡ front l.initial.part (joined l.j (λ u. side_at l.t u ∷ [])))
-
-abbrev pub decreases-loop-j : goal.decreases-loop-j
-decreases-loop-j l = 64 - l.j
+invariant-loop-j l = (length l.part ≡ length l.initial.part) × (l.part ≡ front l.initial.part (joined l.j (λ u. side_at l.t u ∷ [])))

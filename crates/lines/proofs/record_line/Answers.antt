@@ -1,15 +1,15 @@
 -- `lines::record_line` meets its contract: its writers lay the parts of the line one after the other.
 use Prim.Native.Nat.{◌≤◌}
-use native.Mathlib.Omega.{arith}
+use borrow.Author.Rules.{rules}
 use lib.ListN.{length}
 use Rattle.lines_words.specs.Overlay.{top}
 use Rattle.lines_words.specs.Text.{letters}
 use Rattle.lines.specs.Lines.{record_line}
-use Rattle.lines_words.proofs.Laws.Laid.{laid_more}
+use Rattle.lines_words.proofs.Laws.Writer.{lays_more}
 use Rattle.lines.proofs.record_line.Goals as goal
 
 pub returns : goal.returns
 unfolding record_line letters
 returns c =
-    let h : length c.args.area.now ≤ top = omega arith in
-    laid_more h (laid_more h (laid_more h c.put_number-p.ensures c.put_word-q.ensures) c.put_chance-s.ensures) c.put_word.ensures
+    let h : length c.args.text.now.area.now ≤ top = search rules in
+    lays_more h (lays_more h (lays_more h c.number.ensures c.word.ensures) c.put_chance.ensures) c.end_line.ensures

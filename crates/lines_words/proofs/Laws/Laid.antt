@@ -4,31 +4,16 @@ use mathlib.Core.List.{List, [], ◌∷◌, ◌++◌}
 use Prim.Native.Nat.{ℕ, ◌+◌, ◌≤◌, ◌<◌}
 use native.Mathlib.Omega.{arith}
 use native.Mathlib.Numerals.{add-one}
-use lib.ListN.{length, get_or, take, set}
+use lib.ListN.{length, get_or, take}
 use lib.Seq.{take-suc}
 use Rattle.lines_words.specs.Overlay.{overlaid, top, place_behind, TextLaid}
-use Rattle.lines_words.proofs.Laws.Overlay.{overlaid-length, overlaid-beyond, overlaid-front, overlaid-after, after_more}
+use Rattle.lines_words.proofs.Laws.Overlay.{overlaid-length, overlaid-front, overlaid-after, after_more}
 
 -- ---- what one writer leaves
 -- no text leaves all as it was
 pub laid_none : (xs : List ℕ) (at : ℕ) → at ≤ top → TextLaid xs at [] xs at
 unfolding overlaid place_behind
 laid_none xs at h = record { area = refl; place = omega arith }
-
--- a byte that is stored
-pub laid-byte : (xs : List ℕ) (at b : ℕ) → at < top → TextLaid xs at (b ∷ []) (set xs at b) (at + 1)
-unfolding overlaid place_behind
-laid-byte xs at b h = record { area = refl; place = omega arith }
-
--- a byte that is dropped
-pub laid-dropped : (xs : List ℕ) (at b : ℕ) → length xs ≤ at → at < top → TextLaid xs at (b ∷ []) xs (at + 1)
-unfolding place_behind
-laid-dropped xs at b l h = record { area = sym (overlaid-beyond xs at (b ∷ []) l); place = omega arith }
-
--- a byte that is dropped at the largest place
-pub laid-last : (xs : List ℕ) (at b : ℕ) → length xs ≤ at → at ≡ top → TextLaid xs at (b ∷ []) xs at
-unfolding place_behind
-laid-last xs at b l h = record { area = sym (overlaid-beyond xs at (b ∷ []) l); place = omega arith }
 
 -- a writer keeps the area's length
 pub laid-length : {xs text ys : List ℕ} {at r : ℕ} → TextLaid xs at text ys r → length ys ≡ length xs

@@ -8,6 +8,10 @@ use Rattle.lines_words.specs.Overlay.{top}
 use Rattle.lines_words.proofs.Laws.Laid.{laid-length, laid-place, laid-front}
 use Rattle.listing.specs.Listing.{ListedAs}
 
+-- the answer is no more than the longest listing, whatever is lent
+pub listed-most : {Is : List ℕ → Type 0} {xs ys : List ℕ} {r : ℕ} → ListedAs Is xs ys r → r ≤ 312
+listed-most L = omega (arith, L.short, laid-place L.laid (omega (arith, L.short)))
+
 module _ (Is : List ℕ → Type 0) (xs ys : List ℕ) (r : ℕ) (L : ListedAs Is xs ys r) (room : 312 ≤ length xs) where
   pub listed-within : r ≤ length ys
   listed-within = omega (arith, L.short, room, laid-length L.laid, laid-place L.laid (omega (arith, L.short)))

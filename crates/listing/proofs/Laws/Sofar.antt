@@ -11,9 +11,12 @@ use lib.Dec.{eqb}
 use lib.ListN.{length}
 use Rattle.exact.proofs.Laws.Sum.{split}
 use Rattle.contents.specs.Contents.{count_of, contents_number}
-use Rattle.lines_words.specs.Overlay.{top, TextLaid}
+use Rattle.lines_words.specs.Overlay.{top}
+use Rattle.lines_words.specs.Inner.Writer.{Lays}
+use Rattle.lines_words.specs.declared.Text.{Text}
 use Rattle.lines.specs.Lines.{book_line}
-use Rattle.lines_words.proofs.Laws.Laid.{laid_none, laid-length, laid_more, laid-text}
+use Rattle.lines_words.proofs.Laws.Laid.{laid-length}
+use Rattle.lines_words.proofs.Laws.Writer.{lays_none, lays_more, lays-text}
 use Rattle.book_bodies.specs.declared.Body.{Body}
 use Rattle.book.specs.Read.{ReadsBody}
 use Rattle.book_bodies.specs.Answer.{refusal}
@@ -27,14 +30,14 @@ pub few : (bs : List ℕ) (n : ℕ) → contents_number bs ≡ 0 → n ≡ count
 few bs n z e = omega (arith, e, (good bs z).count)
 
 -- a writer leaves the area as short as it was
-pub narrow : {xs text ys : List ℕ} {at r : ℕ} → TextLaid xs at text ys r → length xs ≤ top → length ys ≤ top
-narrow l h = omega (arith, laid-length l, h)
+pub narrow : {t u : Text} {text : List ℕ} → Lays t text u → length t.area.now ≤ top → length u.area.now ≤ top
+narrow l h = omega (arith, laid-length l.laid, h)
 
--- the lines of the first j bodies are written, from a place on
-pub record Sofar (bs xs : List ℕ) (p j : ℕ) (ys : List ℕ) (at : ℕ) : Type 0 where
+-- the writer t laid the lines of the first j bodies, and is now u
+pub record Sofar (bs : List ℕ) (t : Text) (j : ℕ) (u : Text) : Type 0 where
   pub bodies : ℕ → Body
   pub read : (i : ℕ) → i < j → ReadsBody bs i (bodies i)
-  pub laid : TextLaid xs p (body_lines j bodies) ys at
+  pub lays : Lays t (body_lines j bodies) u
 
 -- the lines hang on the first n bodies alone
 pub lines_same : (n : ℕ) (f g : ℕ → Body) → ((i : ℕ) → i < n → f i ≡ g i) → body_lines n f ≡ body_lines n g
@@ -55,16 +58,16 @@ with-else : (f : ℕ → Body) (j : ℕ) (b : Body) (i : ℕ) → i < j → with
 unfolding with
 with-else f j b i h = rw (ne_eqb i j (λ e. omega (arith, h, e)))
 
-module _ (bs xs : List ℕ) where
-  pub begun : (p : ℕ) → p ≤ top → Sofar bs xs p 0 xs p
+module _ (bs : List ℕ) (t : Text) where
+  pub begun : t.at ≤ top → Sofar bs t 0 t
   unfolding body_lines
-  begun p h = record {
+  begun h = record {
     bodies = λ i. refusal 0;
     read = λ i h. absurd (omega (arith, h));
-    laid = laid_none xs p h;
+    lays = lays_none t h;
   }
 
-  module _ (p j : ℕ) (short : length xs ≤ top) (ys zs : List ℕ) (at q : ℕ) (b : Body) (S : Sofar bs xs p j ys at) where
+  module _ (j : ℕ) (short : length t.area.now ≤ top) (u v : Text) (b : Body) (S : Sofar bs t j u) where
     f : ℕ → Body
     f = with S.bodies j b
 
@@ -83,17 +86,17 @@ module _ (bs xs : List ℕ) where
     unfolding f
     below-j i h = subst (ReadsBody bs i) (sym (with-else S.bodies j b i h)) (S.read i h)
 
-    pub grown : ReadsBody bs j b → TextLaid ys at (body_line j b.said b.table) zs q → Sofar bs xs p (j + 1) zs q
+    pub grown : ReadsBody bs j b → Lays u (body_line j b.said b.table) v → Sofar bs t (j + 1) v
     grown r l = record {
       bodies = f;
       read = λ i h. ⊎_elim (λ (s : i < j). below-j i s) (λ (s : j ≤ i). at_j r i (omega (arith, s, h))) (split i j);
-      laid = laid-text (sym text) (laid_more short S.laid l);
+      lays = lays-text (sym text) (lays_more short S.lays l);
     }
 
   -- behind the first line, all bodies are written
-  pub whole : (j p : ℕ) (ys zs : List ℕ) (r : ℕ) → length xs ≤ top → j ≡ count_of bs → TextLaid xs 0 (book_line (count_of bs)) ys p → Sofar bs ys p j zs r → BodiesListed bs xs zs r
-  whole j p ys zs r short e l S = record {
+  pub whole : (j : ℕ) (u v : Text) → length t.area.now ≤ top → j ≡ count_of bs → Lays t (book_line (count_of bs)) u → Sofar bs u j v → BodiesListed bs t v
+  whole j u v short e l S = record {
     bodies = S.bodies;
     read = λ i h. S.read i (omega (arith, h, e));
-    laid = laid_more short l (laid-text (ap (λ (n : ℕ). body_lines n S.bodies) e) S.laid);
+    lays = lays_more short l (lays-text (ap (λ (n : ℕ). body_lines n S.bodies) e) S.lays);
   }

@@ -3,6 +3,9 @@ use Prim.Native.Nat.{ℕ, suc, ◌+◌, ◌≤◌, ◌<◌}
 use native.Mathlib.Omega.{arith}
 use lib.IntN.{ℤ, pos, negsuc, nat_abs}
 use lib.ListN.{length, length-append}
+use Rattle.std.specs.Prelude.{Result, Ok, Err}
+use Rattle.exact.specs.Code.{code_of}
+use Rattle.exact.specs.declared.Refusal.{Refusal}
 use Rattle.exact.specs.declared.Answer.{Answer}
 use Rattle.exact.specs.declared.Answer.TheVariants as answer
 use Rattle.lines_words.specs.Text.{letters, digits, signed_text}
@@ -10,7 +13,6 @@ use Rattle.lines_words.proofs.Laws.Digits.{digits-length}
 use Rattle.lines.proofs.Laws.Lengths as amounts
 use Rattle.path_sum.specs.declared.Four.{Four}
 use Rattle.path_sum.specs.declared.PathSum.{PathSum}
-use Rattle.path_sum.specs.declared.PathSum.TheVariants.{Refused, Is}
 use Rattle.path_sum.specs.Paths.{value_of}
 use Rattle.path_sum.proofs.Laws.Small.{Within}
 use Rattle.path_lines.specs.Lines.{refused_text, four_text, paths_text, summed_text, path_line}
@@ -36,14 +38,14 @@ unfolding four_text letters
 four f w = simp length-append (omega (arith, large f.c0 w.first, large f.c1 w.second, large f.c2 w.third, large f.c3 w.fourth))
 
 -- the first half: a refusal of two digits, or small numbers and a power in range
-abbrev pub PathsShort : PathSum → Type 0
-PathsShort (Refused n) = n < 100
-PathsShort (Is f s) = Within 1048576 (value_of f) × (nat_abs s.0 ≤ 2000)
+abbrev pub PathsShort : Result PathSum Refusal → Type 0
+PathsShort (Err r) = code_of r < 100
+PathsShort (Ok s) = Within 1048576 (value_of s.four) × (nat_abs s.power.0 ≤ 2000)
 
-paths : (r : PathSum) → PathsShort r → length (paths_text r) ≤ 41
+paths : (r : Result PathSum Refusal) → PathsShort r → length (paths_text r) ≤ 41
 unfolding paths_text letters
-paths (Refused n) h = omega (arith, refused 2 n (digits-length 1 n h))
-paths (Is f s) h = simp length-append (omega (arith, four f h.0, power s.0 h.1))
+paths (Err r) h = omega (arith, refused 2 (code_of r) (digits-length 1 (code_of r) h))
+paths (Ok s) h = simp length-append (omega (arith, four s.four h.0, power s.power.0 h.1))
 
 -- the second half: a refusal of one digit, or an amount in range
 abbrev pub SummedShort : Answer → Type 0
@@ -55,6 +57,6 @@ unfolding summed_text
 summed (answer.Refused n) h = omega (arith, refused 1 n (digits-length 0 n h))
 summed (answer.Is a) h = omega (arith, amounts.amount a h)
 
-pub path-length : (j : ℕ) (r : PathSum) (a : Answer) → j < 100 → PathsShort r → SummedShort a → length (path_line j r a) ≤ 55
+pub path-length : (j : ℕ) (r : Result PathSum Refusal) (a : Answer) → j < 100 → PathsShort r → SummedShort a → length (path_line j r a) ≤ 55
 unfolding path_line letters
 path-length j r a h p s = simp length-append (omega (arith, digits-length 1 j h, paths r p, summed a s))

@@ -8,6 +8,10 @@ use Rattle.lines_words.specs.Overlay.{top}
 use Rattle.lines_words.proofs.Laws.Laid.{laid-length, laid-place, laid-front}
 use Rattle.path_listing.specs.Listing.{PathsListed}
 
+-- the answer is no more than the longest listing, whatever is lent
+pub listed-most : {bs xs ys : List ℕ} {r : ℕ} → PathsListed bs xs ys r → r ≤ 888
+listed-most L = omega (arith, L.short, laid-place L.laid (omega (arith, L.short)))
+
 module _ (bs xs ys : List ℕ) (r : ℕ) (L : PathsListed bs xs ys r) (room : 888 ≤ length xs) where
   pub listed-within : r ≤ length ys
   listed-within = omega (arith, L.short, room, laid-length L.laid, laid-place L.laid (omega (arith, L.short)))

@@ -3,6 +3,8 @@ use mathlib.Core.List.{List, ◌++◌}
 use mathlib.Core.Logic.{◌≢◌, ⊎_elim}
 use mathlib.Core.Path.{◌≡◌, refl, sym, ap, ap₂, subst, ◌∙◌}
 use Prim.Native.Nat.{ℕ}
+use Rattle.std.specs.Prelude.{Result}
+use Rattle.exact.specs.declared.Refusal.{Refusal}
 use Rattle.exact.specs.declared.Answer.{Answer}
 use Rattle.bits.proofs.Laws.Bit.{same_or}
 use Rattle.contents.specs.Contents.{count_of}
@@ -26,7 +28,7 @@ one_line j b (Refused k) e g h A B = refl
 one_line j b (Circuit a) e g h A B = refl
 one_line j b (Record c) e g h A B = refl
 one_line j b Whole e g h A B =
-    ap₂ (λ (r : PathSum) (a : Answer). path_line j r a) (one-paths b.table g.paths h.paths (A e).paths (B e).paths) (one-away b.table g.summed h.summed (A e).summed (B e).summed)
+    ap₂ (λ (r : Result PathSum Refusal) (a : Answer). path_line j r a) (one-paths b.table g.paths h.paths (A e).paths (B e).paths) (one-away b.table g.summed h.summed (A e).summed (B e).summed)
 
 pub one-tables : (bs text more : List ℕ) → Tables bs text → Tables bs more → text ≡ more
 one-tables bs text more L M =

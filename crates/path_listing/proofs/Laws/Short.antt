@@ -14,7 +14,7 @@ use Rattle.exact.specs.Value.{Value, nil}
 use Rattle.exact.specs.declared.Answer.{Answer}
 use Rattle.exact.specs.declared.Answer.TheVariants as answer
 use Rattle.exact.specs.Amount.{none, some}
-use Rattle.exact.specs.Answer.{amount_of}
+use Rattle.exact.specs.Inner.Answer.{amount_of}
 use Rattle.exact.proofs.Laws.Sum.{split}
 use Rattle.bits.proofs.Laws.Bit.{same_or}
 use Rattle.ties.specs.Ties.{held}
@@ -38,7 +38,8 @@ use Rattle.body_read.specs.Table.{table_of}
 use Rattle.book.specs.Book.{bytes_of}
 use Rattle.book.specs.Read.{ReadsBody}
 use Rattle.path_sum.specs.declared.PathSum.{PathSum}
-use Rattle.path_sum.specs.declared.PathSum.TheVariants as sum
+use Rattle.std.specs.Prelude.{Result, Ok, Err}
+use Rattle.exact.specs.declared.Refusal.{Refusal}
 use Rattle.path_sum.specs.Paths.{paths_of, four, value_of, bits_number, PathsAdded}
 use Rattle.path_sum.proofs.Laws.Small.{Within, paths-small}
 use Rattle.path_away.specs.Away.{SummedAway}
@@ -79,13 +80,13 @@ table-normal n bs b A = by (body_fault n bs) refl
 
 -- ---- the halves of a normal table
 -- the numbers of an answer that is not refused
-numbers_in : PathSum → Value
-numbers_in (sum.Refused k) = nil
-numbers_in (sum.Is f s) = value_of f
+numbers_in : Result PathSum Refusal → Value
+numbers_in (Err k) = nil
+numbers_in (Ok s) = value_of s.four
 
-power_in : PathSum → ℤ
-power_in (sum.Refused k) = pos 0
-power_in (sum.Is f s) = s.0
+power_in : Result PathSum Refusal → ℤ
+power_in (Err k) = pos 0
+power_in (Ok s) = s.power.0
 
 entry-range : (t : State) → Normal t → (x : ℕ → ℕ) → InRange (entry t x)
 unfolding entry turns_at
@@ -114,10 +115,10 @@ module _ (t : State) (N : Normal t) where
   narrow z =
       ⊎_elim (λ (l : 20 < ones t.live). let q : bits_number t ≡ 15 = first-yes _ _ _ (lt-ltb 20 (ones t.live) l) in absurd (omega (arith, z, q))) (λ (l : ones t.live ≤ 20). l) (split 20 (ones t.live))
 
-  paths-short : (r : PathSum) → PathsAdded t r → PathsShort r
+  paths-short : (r : Result PathSum Refusal) → PathsAdded t r → PathsShort r
   unfolding numbers_in power_in
-  paths-short (sum.Refused n) A = omega (arith, A.sound N, number_small)
-  paths-short (sum.Is f s) A =
+  paths-short (Err n) A = omega (arith, A.sound N, number_small)
+  paths-short (Ok s) A =
       let l = narrow (sym (A.sound N)) in
       let e = A.done refl in
       (subst (Within 1048576) (sym (ap numbers_in e)) (paths-small t N l), subst (λ (z : ℤ). nat_abs z ≤ 2000) (sym (ap power_in e)) (power-range t.power.0 N.power-range))

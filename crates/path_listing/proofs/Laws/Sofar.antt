@@ -12,21 +12,24 @@ use lib.ListN.{length}
 use Rattle.exact.proofs.Laws.Sum.{split}
 use Rattle.exact.specs.declared.Answer.TheVariants as answer
 use Rattle.contents.specs.Contents.{count_of}
-use Rattle.lines_words.specs.Overlay.{top, TextLaid}
+use Rattle.lines_words.specs.Overlay.{top}
+use Rattle.lines_words.specs.Inner.Writer.{Lays}
+use Rattle.lines_words.specs.declared.Text.{Text}
 use Rattle.lines.specs.Lines.{book_line}
-use Rattle.lines_words.proofs.Laws.Laid.{laid_none, laid_more, laid-text}
+use Rattle.lines_words.proofs.Laws.Writer.{lays_none, lays_more, lays-text, lays-within}
 use Rattle.book_bodies.specs.declared.Said.{Said}
 use Rattle.book_bodies.specs.declared.Said.TheVariants.{Refused, Circuit, Record, Whole}
 use Rattle.book_bodies.specs.declared.Body.{Body}
 use Rattle.book.specs.Read.{ReadsBody}
 use Rattle.book_bodies.specs.Answer.{refusal}
-use Rattle.path_sum.specs.declared.PathSum.TheVariants as sum
+use Rattle.std.specs.Prelude.{Err}
+use Rattle.exact.specs.declared.Refusal.TheVariants.{NotNormal}
 use Rattle.path_listing.specs.Listing.{Halves, Answers, body_text, table_lines, Tables}
 use Rattle.path_listing.specs.Inner.Tables.{BodyLined, TablesListed}
 
 -- ---- a body that has no line
 pub no_halves : Halves
-no_halves = record { paths = sum.Refused 0; summed = answer.Refused 0 }
+no_halves = record { paths = Err NotNormal; summed = answer.Refused 0 }
 
 -- 1 for a table
 abbrev pub lined : Said → ℕ
@@ -42,11 +45,11 @@ silent-text j (Circuit a) e = refl
 silent-text j (Record c) e = refl
 silent-text j Whole e = absurd (omega (arith, e))
 
-pub silent : (xs : List ℕ) (at j : ℕ) (b : Body) → at ≤ top → lined b.said ≡ 0 → BodyLined xs at j b xs at
-silent xs at j b l e = record {
+pub silent : (t : Text) (j : ℕ) (b : Body) → lined b.said ≡ 0 → BodyLined t j b t
+silent t j b e = record {
   halves = no_halves;
   answers = λ w. let q : lined b.said ≡ 1 = ap lined w in absurd (omega (arith, e, q));
-  laid = laid-text (sym (silent-text j b.said e)) (laid_none xs at l);
+  lays = λ l. lays-text (sym (silent-text j b.said e)) (lays_none t l);
 }
 
 -- ---- what is read of a body, with its halves
@@ -62,11 +65,11 @@ pub record Rowed (bs : List ℕ) (j : ℕ) (r : Row) : Type 0 where
 pub row_lines : ℕ → (ℕ → Row) → List ℕ
 row_lines n f = table_lines n (λ i. (f i).body) (λ i. (f i).halves)
 
--- the lines of the first j bodies are written, from a place on
-pub record Sofar (bs xs : List ℕ) (p j : ℕ) (ys : List ℕ) (at : ℕ) : Type 0 where
+-- the writer t laid the lines of the first j bodies, and is now u
+pub record Sofar (bs : List ℕ) (t : Text) (j : ℕ) (u : Text) : Type 0 where
   pub rows : ℕ → Row
   pub each : (i : ℕ) → i < j → Rowed bs i (rows i)
-  pub laid : TextLaid xs p (row_lines j rows) ys at
+  pub lays : Lays t (row_lines j rows) u
 
 -- the lines hang on the first n rows alone
 pub lines_same : (n : ℕ) (f g : ℕ → Body) (p q : ℕ → Halves) → ((i : ℕ) → i < n → body_text i (f i).said (p i) ≡ body_text i (g i).said (q i)) → table_lines n f p ≡ table_lines n g q
@@ -90,16 +93,16 @@ with-else f j b i h = rw (ne_eqb i j (λ e. omega (arith, h, e)))
 row_text : ℕ → Row → List ℕ
 row_text j r = body_text j r.body.said r.halves
 
-module _ (bs xs : List ℕ) where
-  pub begun : (p : ℕ) → p ≤ top → Sofar bs xs p 0 xs p
+module _ (bs : List ℕ) (t : Text) where
+  pub begun : t.at ≤ top → Sofar bs t 0 t
   unfolding table_lines row_lines
-  begun p h = record {
+  begun h = record {
     rows = λ i. record { body = refusal 0; halves = no_halves };
     each = λ i h. absurd (omega (arith, h));
-    laid = laid_none xs p h;
+    lays = lays_none t h;
   }
 
-  module _ (p j : ℕ) (short : length xs ≤ top) (ys zs : List ℕ) (at q : ℕ) (r : Row) (S : Sofar bs xs p j ys at) where
+  module _ (j : ℕ) (short : length t.area.now ≤ top) (u v : Text) (r : Row) (S : Sofar bs t j u) where
     f : ℕ → Row
     f = with S.rows j r
 
@@ -118,23 +121,23 @@ module _ (bs xs : List ℕ) where
     unfolding f
     below-j i h = subst (Rowed bs i) (sym (with-else S.rows j r i h)) (S.each i h)
 
-    grown-row : Rowed bs j r → TextLaid ys at (row_text j r) zs q → Sofar bs xs p (j + 1) zs q
+    grown-row : Rowed bs j r → Lays u (row_text j r) v → Sofar bs t (j + 1) v
     grown-row w l = record {
       rows = f;
       each = λ i h. ⊎_elim (λ (s : i < j). below-j i s) (λ (s : j ≤ i). at_j w i (omega (arith, s, h))) (split i j);
-      laid = laid-text (sym text) (laid_more short S.laid l);
+      lays = lays-text (sym text) (lays_more short S.lays l);
     }
 
   -- a body more is read and its line written
-  pub grown : (p j : ℕ) → length xs ≤ top → (ys zs : List ℕ) (at q : ℕ) (b : Body) → Sofar bs xs p j ys at → ReadsBody bs j b → BodyLined ys at j b zs q → Sofar bs xs p (j + 1) zs q
+  pub grown : (j : ℕ) → length t.area.now ≤ top → (u v : Text) (b : Body) → Sofar bs t j u → ReadsBody bs j b → BodyLined u j b v → Sofar bs t (j + 1) v
   unfolding row_text
-  grown p j short ys zs at q b S r L =
-      grown-row p j short ys zs at q (record { body = b; halves = L.halves }) S (record { read = r; answers = L.answers }) L.laid
+  grown j short u v b S r L =
+      grown-row j short u v (record { body = b; halves = L.halves }) S (record { read = r; answers = L.answers }) (L.lays (lays-within S.lays))
 
   -- behind the first line, all bodies are written
-  pub whole : (j p : ℕ) (ys zs : List ℕ) (r : ℕ) → length xs ≤ top → j ≡ count_of bs → TextLaid xs 0 (book_line (count_of bs)) ys p → Sofar bs ys p j zs r → TablesListed bs xs zs r
+  pub whole : (j : ℕ) (u v : Text) → length t.area.now ≤ top → j ≡ count_of bs → Lays t (book_line (count_of bs)) u → Sofar bs u j v → TablesListed bs t v
   unfolding row_lines
-  whole j p ys zs r short e l S = record {
+  whole j u v short e l S = record {
     text = book_line (count_of bs) ++ row_lines (count_of bs) S.rows;
     tables = record {
       bodies = λ i. (S.rows i).body;
@@ -143,5 +146,5 @@ module _ (bs xs : List ℕ) where
       answers = λ i h. (S.each i (omega (arith, h, e))).answers;
       listed = refl;
     };
-    laid = laid_more short l (laid-text (ap (λ (n : ℕ). row_lines n S.rows) e) S.laid);
+    lays = lays_more short l (lays-text (ap (λ (n : ℕ). row_lines n S.rows) e) S.lays);
   }

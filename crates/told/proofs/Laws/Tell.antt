@@ -1,74 +1,18 @@
--- What is told on each way through the code, case by case of the answer or of the body.
+-- What is told on each way through the code, case by case of the body.
 use mathlib.Core.Path.{◌≡◌, refl, sym, ap, ◌∙◌}
 use Prim.Native.Nat.{ℕ}
 use native.Mathlib.Omega.{arith}
 use lib.Count.{ones}
 use Rattle.exact.specs.declared.Amount.{Amount}
-use Rattle.exact.specs.declared.Answer.{Answer}
-use Rattle.exact.specs.declared.Answer.TheVariants.{Refused as NotGiven, Is}
-use Rattle.exact.specs.Answer.{number_of, amount_of}
 use Rattle.exact.specs.declared.Chance.{Chance}
-use Rattle.exact.specs.declared.Told.{Told as ChanceAnswer}
-use Rattle.exact.specs.declared.Told.TheVariants.{Refused as NotTold, Is as IsChance}
 use Rattle.exact.specs.Chance.{chance_amount}
-use Rattle.exact.specs.Inner.Held.{chance_of}
-use Rattle.exact.specs.Chance.{number_of as chance_number}
 use Rattle.state.specs.Entry.{ties}
 use Rattle.book_bodies.specs.declared.Said.{Said}
 use Rattle.book_bodies.specs.declared.Said.TheVariants.{Refused, Circuit, Record, Whole}
 use Rattle.book_bodies.specs.declared.Body.{Body}
 use Rattle.book_bodies.specs.Answer.{said_number, said_amount, said_chance}
 use Rattle.listing_line.specs.Line.{table_amount}
-use Rattle.told.specs.Told.{Told, told, AnswerTold, Odds, told_chance, ChanceTold, Shown, shown, BodyTold}
-
--- ---- an answer
--- the cases differ
-which : Answer → ℕ
-which (NotGiven k) = 0
-which (Is m) = 1
-
-apart : (k : ℕ) (m : Amount) → NotGiven k ≡ Is m → ⊥
-unfolding which
-apart k m e = let f : ◌≡◌ {A = ℕ} 0 1 = ap which e in omega (arith, f)
-
-module _ (a : Answer) (t : Told) where
-  pub tells-refused : (k : ℕ) → a ≡ NotGiven k → AnswerTold a t k t
-  tells-refused k e = record {
-    number = sym (ap number_of e);
-    kept = λ j f. refl;
-    given = λ m f. absurd (apart k m (sym e ∙ f));
-  }
-
-  pub tells-given : (m : Amount) (u : Told) → a ≡ Is m → u ≡ told m → AnswerTold a t 0 u
-  tells-given m u e g = record {
-    number = sym (ap number_of e);
-    kept = λ k f. absurd (apart k m (sym f ∙ e));
-    given = λ n f. g ∙ ap (λ (x : Answer). told (amount_of x)) (sym e ∙ f);
-  }
-
--- ---- a record's answer
-kind : ChanceAnswer → ℕ
-kind (NotTold k) = 0
-kind (IsChance c) = 1
-
-no-chance : (k : ℕ) (c : Chance) → NotTold k ≡ IsChance c → ⊥
-unfolding kind
-no-chance k c e = let f : ◌≡◌ {A = ℕ} 0 1 = ap kind e in omega (arith, f)
-
-module _ (a : ChanceAnswer) (t : Odds) where
-  pub chance-refused : (k : ℕ) → a ≡ NotTold k → ChanceTold a t k t
-  chance-refused k e = record {
-    number = sym (ap chance_number e);
-    kept = λ j f. refl;
-    given = λ c f. absurd (no-chance k c (sym e ∙ f));
-  }
-
-  pub chance-given : (c : Chance) (u : Odds) → a ≡ IsChance c → u ≡ told_chance c → ChanceTold a t 0 u
-  chance-given c u e g = record {
-    number = sym (ap chance_number e);
-    kept = λ k f. absurd (no-chance k c (sym f ∙ e));
-    given = λ d f. g ∙ ap (λ (x : ChanceAnswer). told_chance (chance_of x)) (sym e ∙ f);
-  }
+use Rattle.told.specs.Told.{Shown, shown, BodyTold}
 
 -- ---- a body
 case : Said → ℕ

@@ -3,4 +3,4 @@ use Rattle.told_cliffords.proofs.Laws.Told.{told}
 use Rattle.told_cliffords.proofs.product.Goals as goal
 
 pub returns : goal.returns
-returns c = told _ _ c.product-e.result c.args.element.now c.tell.result c.tell.new.element c.product-e.ensures c.tell.ensures
+returns c = told _ _ c.product.result c.args.element.now c.tell.result c.tell.new.element c.product.ensures c.tell.ensures

@@ -2,4 +2,4 @@
 use Rattle.told_operator.proofs.common_phase.Goals as goal
 
 pub returns : goal.returns
-returns c = record { answer = c.common_phase-a.result; is = c.common_phase-a.ensures; tells = c.tell_phase.ensures }
+returns c = record { answer = c.common_phase-answer.result; is = c.common_phase-answer.ensures; tells = c.tell_phase.ensures }

@@ -2,4 +2,4 @@
 use Rattle.told_operator.proofs.same.Goals as goal
 
 pub returns : goal.returns
-returns c = record { answer = c.same-c.result; is = c.same-c.ensures; tells = c.tell_same.ensures }
+returns c = record { answer = c.same-answer.result; is = c.same-answer.ensures; tells = c.tell_same.ensures }

@@ -7,14 +7,15 @@ use Rattle.bits.proofs.Laws.Bit.{same_or}
 use Rattle.body_read.specs.declared.Reading.{Reading}
 use Rattle.body_read.proofs.Laws.Only.{one-reading}
 use Rattle.path_sum.specs.declared.PathSum.{PathSum}
-use Rattle.path_sum.specs.declared.PathSum.TheVariants.{Refused, Is}
+use Rattle.std.specs.Prelude.{Result, Ok, Err}
+use Rattle.exact.specs.declared.Refusal.{Refusal}
 use Rattle.path_sum.specs.Paths.{PathsAdded}
 use Rattle.theorem_paths.proofs.Laws.Only.{one-paths}
 use Rattle.told_paths.specs.Told.{Five, SumTold, PathsTold}
 
-one-sum-told : (r : PathSum) (t u v : Five) (n m : ℕ) → SumTold r t n u → SumTold r t m v → (n ≡ m) × (u ≡ v)
-one-sum-told (Refused k) t u v n m A B = (A.number ∙ sym B.number, A.kept k refl ∙ sym (B.kept k refl))
-one-sum-told (Is f s) t u v n m A B = (A.number ∙ sym B.number, A.given f s refl ∙ sym (B.given f s refl))
+one-sum-told : (r : Result PathSum Refusal) (t u v : Five) (n m : ℕ) → SumTold r t n u → SumTold r t m v → (n ≡ m) × (u ≡ v)
+one-sum-told (Err k) t u v n m A B = (A.number ∙ sym B.number, A.kept k refl ∙ sym (B.kept k refl))
+one-sum-told (Ok s) t u v n m A B = (A.number ∙ sym B.number, A.given s.four s.power refl ∙ sym (B.given s.four s.power refl))
 
 pub one-paths-told : (width : ℕ) (bs : List ℕ) (t u v : Five) (n m : ℕ) → PathsTold width bs t n u → PathsTold width bs t m v → (n ≡ m) × (u ≡ v)
 one-paths-told width bs t u v n m A B = ⊎_elim given refused (same_or A.reading.refusal 0)
@@ -31,7 +32,7 @@ one-paths-told width bs t u v n m A B = ⊎_elim given refused (same_or A.readin
         let b = B.given (sym number ∙ z) in
         let i = subst (λ (r : Reading). PathsAdded r.table a.answer) e a.is in
         let s = one-paths B.reading.table a.answer b.answer i b.is in
-        one-sum-told b.answer t u v n m (subst (λ (c : PathSum). SumTold c t n u) s a.tells) b.tells
+        one-sum-told b.answer t u v n m (subst (λ (c : Result PathSum Refusal). SumTold c t n u) s a.tells) b.tells
 
     refused : A.reading.refusal ≢ 0 → (n ≡ m) × (u ≡ v)
     refused ne =

@@ -1,15 +1,13 @@
 -- An answer as a number and what stands behind the pointer.
-use Rattle.std.specs.Prelude.{◌≡◌, ℕ}
-use Rattle.tableau.specs.declared.Verdict.{Verdict}
-use Rattle.tableau.specs.declared.Verdict.TheVariants.{Refused, Yes, No}
-use Rattle.tableau.specs.declared.Pair.{Pair}
-use Rattle.tableau.specs.declared.Pair.TheVariants as pair
+use Rattle.std.specs.Prelude.{Bool, true, false, ◌≡◌, ℕ, Result, Ok, Err}
+use Rattle.exact.specs.declared.Refusal.{Refusal}
+use Rattle.exact.specs.Code.{code_of}
 
-abbrev pub TellsVerdict : Verdict → ℕ → ℕ → ℕ → Type 0
-TellsVerdict (Refused k) before n after = (n ≡ k) × (after ≡ before)
-TellsVerdict Yes before n after = (n ≡ 0) × (after ≡ 1)
-TellsVerdict No before n after = (n ≡ 0) × (after ≡ 0)
+abbrev pub TellsVerdict : Result Bool Refusal → ℕ → ℕ → ℕ → Type 0
+TellsVerdict (Err r) before n after = (n ≡ code_of r) × (after ≡ before)
+TellsVerdict (Ok true) before n after = (n ≡ 0) × (after ≡ 1)
+TellsVerdict (Ok false) before n after = (n ≡ 0) × (after ≡ 0)
 
-abbrev pub TellsPair : Pair → ℕ → ℕ → ℕ → Type 0
-TellsPair (pair.Refused k) before n after = (n ≡ k) × (after ≡ before)
-TellsPair (pair.Signs h) before n after = (n ≡ 0) × (after ≡ h)
+abbrev pub TellsPair : Result ℕ Refusal → ℕ → ℕ → ℕ → Type 0
+TellsPair (Err r) before n after = (n ≡ code_of r) × (after ≡ before)
+TellsPair (Ok h) before n after = (n ≡ 0) × (after ≡ h)

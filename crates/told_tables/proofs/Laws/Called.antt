@@ -1,4 +1,4 @@
--- A call on a table in lent bytes: refused as they are, or answered; and no second result.
+-- A call on a table in lent bytes: one that promises more, and no second result.
 use mathlib.Core.List.{List}
 use mathlib.Core.Logic.{◌≢◌, ⊎_elim}
 use mathlib.Core.Path.{◌≡◌, refl, sym, ap, subst, ◌∙◌}
@@ -15,21 +15,15 @@ use Rattle.image_read.proofs.Laws.Only.{one-reading}
 use Rattle.told_tables.specs.Called.{bytes_of, held, Answered, Called}
 use Rattle.told_tables.specs.Inner.Back.{PutBack}
 
--- bytes that were read are 1,293
-pub read-size : (bs : List ℕ) (r : Reading) → Reads bs r → r.refusal ≡ accepted → length bs ≡ image_size
-read-size bs r R z = size_of bs r.state r.labels (R.own z)
-
-module _ {A O : Type 0} (bs : List ℕ) (P : Table → A → Type 0) (number : A → ℕ) (after : A → O) (o : O) (r : Reading) (R : Reads bs r) where
-  pub called-refused : r.refusal ≢ accepted → Called bs P number after o r.refusal o
-  called-refused h = record { reading = r; reads = R; refused = λ k. (refl, refl); given = λ z. absurd (h z) }
-
-  pub called-given : r.refusal ≡ accepted → (n : ℕ) (p : O) → Answered (P (held r)) number after o n p → Called bs P number after o n p
-  called-given z n p a = record { reading = r; reads = R; refused = λ h. absurd (h z); given = λ k. a }
-
--- an answer whose table was put back
-pub put-answer : {A : Type 0} (xs ys : List ℕ) (P : A → Type 0) (number : A → ℕ) (table : A → Table) (a : A) (n : ℕ) → P a → PutBack xs (table a) (number a) n ys
-    → Answered P number (λ x. bytes_of (table x)) xs n ys
-put-answer xs ys P number table a n p B = record { answer = a; is = p; number_is = B.number; kept = B.kept; told = B.written }
+-- a call that promises more promises this too
+pub called-as : {A O : Type 0} (bs : List ℕ) (P Q : Table → A → Type 0) (number : A → ℕ) (after : A → O) (o : O) (n : ℕ) (p : O) → ((t : Table) (a : A) → P t a → Q t a)
+    → Called bs P number after o n p → Called bs Q number after o n p
+called-as bs P Q number after o n p f C = record {
+  reading = C.reading;
+  reads = C.reads;
+  refused = C.refused;
+  given = λ z. let a = C.given z in record { answer = a.answer; is = f (held C.reading) a.answer a.is; number_is = a.number_is; kept = a.kept; told = a.told };
+}
 
 -- ---- no second result, where P has one answer as far as it is told
 module _ {A O : Type 0} (bs : List ℕ) (P : Table → A → Type 0) (number : A → ℕ) (after : A → O) (o : O) (one : (t : Table) (a b : A) → P t a → P t b → a ≡ b) where

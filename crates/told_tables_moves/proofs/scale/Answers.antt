@@ -1,16 +1,17 @@
--- `scale` meets its contract: refused as the bytes are, or the call on the table that they are, put back.
--- the power as the word reads it
+-- `scale` meets its contract: its call is that on the table, with the power as the word reads it.
 use mathlib.Core.Path.{subst}
+use borrow.Author.Rules.{rules}
 use lib.IntN.{ℤ}
+use mir.Syntax.{w32}
+use mir.ValLaws.{to_z-of_z}
 use Rattle.table.specs.Answers.{ScaleCall}
 use Rattle.table.specs.declared.Changed.{Changed}
-use Rattle.told_tables.specs.Called.{held}
-use Rattle.told_tables.proofs.Laws.Called.{read-size, called-refused, called-given, put-answer}
+use Rattle.told_tables.specs.Called.{bytes_of, Called}
+use Rattle.told_tables.proofs.Laws.Called.{called-as}
 use Rattle.told_tables_moves.proofs.scale.Goals as goal
 
-pub returns-then-refusal-ne0 : goal.returns-then-refusal-ne0
-returns-then-refusal-ne0 c = called-refused _ _ _ _ _ c.read-r.result c.read-r.ensures c.if-refusal-ne0.true
-
-pub put_back-requires : goal.put_back-requires
-put_back-requires c =
-    (read-size _ c.read-r.result c.read-r.ensures c.if-refusal-ne0.false, λ z. (c.scale-c.ensures.done z).normal)
+pub returns : goal.returns
+returns c =
+    subst
+    (λ (z : ℤ). Called c.args.area.now (λ t. ScaleCall t z c.args.p) (λ (r : Changed). r.refusal) (λ r. bytes_of r.table) c.args.area.now c.changed.result c.changed.new.area)
+    (to_z-of_z w32 c.args.m c.ranges.m) (called-as _ _ _ _ _ _ _ _ (λ t r e. search rules) c.changed.ensures)

@@ -1,5 +1,0 @@
--- The number itself falls from call to call.
-use Rattle.lines_words.proofs.+put_number.Given as goal
-
-abbrev pub decreases-put_number : goal.decreases-put_number
-decreases-put_number l = l.n

@@ -1,7 +1,0 @@
--- `number` meets its contract: by the number with two strings.
-use mathlib.Core.Path.{◌∙◌}
-use Rattle.operator_number.proofs.Laws.Number.{operator-is}
-use Rattle.operator_number.proofs.number.Goals as goal
-
-pub returns : goal.returns
-returns c = c.number.ensures ∙ operator-is c.args.edition c.args.width c.args.gates.now
