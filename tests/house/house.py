@@ -13,6 +13,8 @@ STARTS = re.compile(r"^(abbrev|unfoldable|pub|record|data)\b")
 TOKEN = re.compile(r"[^\s(){}\[\],;.λ]+")
 CLAUSE = re.compile(r"\s*(?:requires|ensures)\b")
 FUNCTION = re.compile(r"^\s*(?:#\[[^\]]*\]\s*)?(pub(?:\(\w+\))? )?(?:extern \"C\" )?fn (\w+)")
+IMPL = re.compile(r"^(?:unsafe )?impl\b.* for .*[^}]$")
+PRIVATE = re.compile(r"^(?:pub\(\w+\) )?(?:struct|enum|trait) (\w+)", re.M)
 
 
 def surface():
@@ -104,6 +106,17 @@ def cites(files, found):
                 yield there
 
 
+def head_from(lines, at):
+    """The lines of a function's head up to its body, and the line behind them."""
+    head, deep, at = [lines[at]], 0, at + 1
+    # the body opens at the end of a line of the head, or on a line of its own; a clause closes the braces that it opens
+    while at < len(lines) and (deep or not lines[at - 1].rstrip().endswith("{") and lines[at].strip() != "{"):
+        deep += lines[at].count("{") - lines[at].count("}") if deep or CLAUSE.match(lines[at]) else 0
+        head.append(lines[at])
+        at += 1
+    return head, at
+
+
 def functions(crate):
     """The functions of a crate: file, name, whether it is public, and the lines of its head up to its body."""
     for path in sorted((CRATES / crate / "src").glob("*.rt")):
@@ -114,13 +127,28 @@ def functions(crate):
             if not m:
                 at += 1
                 continue
-            head, deep, at = [lines[at]], 0, at + 1
-            # the body opens at the end of a line of the head, or on a line of its own; a clause closes the braces that it opens
-            while at < len(lines) and (deep or not lines[at - 1].rstrip().endswith("{") and lines[at].strip() != "{"):
-                deep += lines[at].count("{") - lines[at].count("}") if deep or CLAUSE.match(lines[at]) else 0
-                head.append(lines[at])
-                at += 1
+            head, at = head_from(lines, at)
             yield path, m.group(2), (m.group(1) or "").strip() == "pub", head, brings
+
+
+def impls(crate):
+    """The clauses of a crate's impls of traits, but for types or traits of its own that are private: their members and the heads of their functions, and what the use items bring in."""
+    texts = [path.read_text(encoding="utf-8") for path in sorted((CRATES / crate / "src").glob("*.rt"))]
+    private = {name for text in texts for name in PRIVATE.findall(text)}
+    for text in texts:
+        brings, lines, at = used(text.split("\n")), unused(text.split("\n")), 0
+        while at < len(lines):
+            about, clauses, at = lines[at], [], at + 1
+            while IMPL.match(about) and lines[at] != "}":
+                if FUNCTION.match(lines[at]):
+                    head, at = head_from(lines, at)
+                    clauses += head
+                    at = lines.index("    }", at)
+                elif not lines[at].lstrip().startswith("//"):
+                    clauses.append(lines[at])
+                at += 1
+            if clauses and not private & set(re.findall(r"\w+", about)):
+                yield clauses, brings
 
 
 def stated(lines, names):

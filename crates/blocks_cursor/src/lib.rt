@@ -83,14 +83,14 @@ impl Cursor {
 }
 
 // Whether a code is a gate's: it neither opens nor closes a block.
-fn is_gate(code: u8) -> bool
+pub fn is_gate(code: u8) -> bool
     ensures { Sort code result }
 {
     code != 64 && code != 65
 }
 
 // The numbers of a body's gates as they are applied, seen as the list of those that are left.
-#[derive(Drop)]
+#[derive(Clone, Drop)]
 pub struct Expansion<'a> {
     items: &'a [u8],
     cursor: Cursor,

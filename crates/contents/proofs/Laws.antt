@@ -4,3 +4,4 @@ pub mod Header
 pub mod Test
 pub mod Good
 pub mod Printed
+pub mod Only

@@ -1,2 +1,2 @@
 pub mod Contents
-pub mod Inner
+pub mod Kind

@@ -3,7 +3,7 @@
 
 ghost use Rattle.std.specs.Prelude.{◌≡◌};
 ghost use Rattle.contents.specs.Contents.{edition_of, count_of, entry_of, header_fault, good_kind, fault_at, contents_number};
-ghost use Rattle.contents.specs.Inner.Kind.{StatesKind};
+ghost use Rattle.contents.specs.Kind.{StatesKind};
 
 use exact::Refusal;
 

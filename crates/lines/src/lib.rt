@@ -12,7 +12,7 @@ use lines_words::Text;
 fn end_line(text: &mut Text)
     ensures { Lays text.old (letters "\n") text.new }
 {
-    text.word(b"\n");
+    text.word(b"\n")
 }
 
 // A word, a number and the newline.
@@ -67,7 +67,8 @@ pub fn circuit_line(text: &mut Text, j: u8, a: Amount)
     text.number(j as u64);
     text.word(b" C ");
     put_amount(text, a);
-    end_line(text);
+    // Written here, so that an edit can take the newline from this line alone.
+    text.word(b"\n");
 }
 
 // A table's line: its number, `T`, its counts, and its amount.

@@ -31,6 +31,14 @@ impl<'a> Text<'a> {
         Text { area, at: 0 }
     }
 
+    // No byte is written yet; the first goes to this place, which may lie beyond the area's end.
+    pub fn at(area: &'a mut [u8], at: usize) -> Text<'a>
+        ensures same { result.area.ghost_name ≡ area.entry.ghost_name }
+        ensures begun { (result.area.now ≡ area.old) × (result.at ≡ at) }
+    {
+        Text { area, at }
+    }
+
     // The place behind what was written.
     pub fn place(&self) -> usize
         ensures { result ≡ self.now.at }

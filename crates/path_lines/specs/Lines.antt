@@ -1,7 +1,5 @@
 -- The line of a table in the listing of paths: its number, the four numbers and the power, then what is left once the bits are summed away.
 use Rattle.std.specs.Prelude.{List, ◌++◌, ℕ, Result, Ok, Err}
-use Rattle.exact.specs.Code.{code_of}
-use Rattle.exact.specs.declared.Refusal.{Refusal}
 use Rattle.exact.specs.declared.Answer.{Answer}
 use Rattle.exact.specs.declared.Answer.TheVariants as answer
 use Rattle.lines_words.specs.Text.{letters, digits, signed_text}
@@ -18,8 +16,8 @@ unfoldable pub four_text : Four → List ℕ
 four_text f = signed_text f.c0 ++ letters " " ++ signed_text f.c1 ++ letters " " ++ signed_text f.c2 ++ letters " " ++ signed_text f.c3
 
 -- "the four numbers and power"
-unfoldable pub paths_text : Result PathSum Refusal → List ℕ
-paths_text (Err r) = refused_text (code_of r)
+unfoldable pub paths_text : Result PathSum ℕ → List ℕ
+paths_text (Err n) = refused_text n
 paths_text (Ok s) = four_text s.four ++ letters " " ++ signed_text s.power.0
 
 -- "the summed power and phase or `zero`"
@@ -28,5 +26,5 @@ summed_text (answer.Refused n) = refused_text n
 summed_text (answer.Is a) = amount_text a
 
 -- "a line of number, the four numbers and power, then the summed power and phase or `zero`"
-unfoldable pub path_line : ℕ → Result PathSum Refusal → Answer → List ℕ
+unfoldable pub path_line : ℕ → Result PathSum ℕ → Answer → List ℕ
 path_line j r a = digits j ++ letters " " ++ paths_text r ++ letters " " ++ summed_text a ++ letters "\n"

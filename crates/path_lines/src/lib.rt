@@ -4,7 +4,7 @@
 ghost use Rattle.lines_words.specs.Inner.Writer.{Lays};
 ghost use Rattle.path_lines.specs.Lines.{refused_text, four_text, paths_text, summed_text, path_line};
 
-use exact::{Answer, Refusal};
+use exact::Answer;
 use lines_words::Text;
 use path_sum::{Four, PathSum};
 
@@ -30,11 +30,11 @@ fn put_four(text: &mut Text, f: Four)
 }
 
 // The first half: the four numbers and the power, or a refusal.
-fn put_paths(text: &mut Text, r: Result<PathSum, Refusal>)
+fn put_paths(text: &mut Text, r: Result<PathSum, u8>)
     ensures { Lays text.old (paths_text r) text.new }
 {
     match r {
-        Err(refusal) => put_refused(text, u8::from(refusal)),
+        Err(n) => put_refused(text, n),
         Ok(sum) => {
             put_four(text, sum.four);
             text.word(b" ");
@@ -54,7 +54,7 @@ fn put_summed(text: &mut Text, a: Answer)
 }
 
 // A table's line: its number and both halves.
-pub fn path_line(text: &mut Text, j: u8, r: Result<PathSum, Refusal>, a: Answer)
+pub fn path_line(text: &mut Text, j: u8, r: Result<PathSum, u8>, a: Answer)
     ensures { Lays text.old (path_line j r a) text.new }
 {
     text.number(j as u64);

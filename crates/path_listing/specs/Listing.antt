@@ -1,6 +1,7 @@
 -- The listing of the paths of a book: the count, a line for each table; or the single line of a refused book.
-use Rattle.std.specs.Prelude.{List, [], ◌++◌, ◌≢◌, ◌≡◌, ℕ, zero, suc, ◌≤◌, ◌<◌, length, Result}
+use Rattle.std.specs.Prelude.{List, [], ◌++◌, ◌≢◌, ◌≡◌, ℕ, zero, suc, ◌≤◌, ◌<◌, length, Result, Ok, Err}
 use Rattle.exact.specs.Refusal.{accepted}
+use Rattle.exact.specs.Code.{code_of}
 use Rattle.exact.specs.declared.Refusal.{Refusal}
 use Rattle.exact.specs.declared.Answer.{Answer}
 use Rattle.contents.specs.Contents.{count_of}
@@ -27,12 +28,17 @@ pub record Answers (t : State) (h : Halves) : Type 0 where
   pub paths : PathsAdded t h.paths
   pub summed : SummedAway t h.summed
 
+-- the paths of a table, a refusal by its number
+abbrev pub numbered : Result PathSum Refusal → Result PathSum ℕ
+numbered (Ok s) = Ok s
+numbered (Err r) = Err (code_of r)
+
 -- "for each table body a line"; other bodies have none
 unfoldable pub body_text : ℕ → Said → Halves → List ℕ
 body_text j (Refused k) h = []
 body_text j (Circuit a) h = []
 body_text j (Record c) h = []
-body_text j Whole h = path_line j h.paths h.summed
+body_text j Whole h = path_line j (numbered h.paths) h.summed
 
 -- the lines of the tables among the first n bodies
 unfoldable pub table_lines : ℕ → (ℕ → Body) → (ℕ → Halves) → List ℕ

@@ -20,7 +20,7 @@ fn body_line(text: &mut Text, j: u8, b: Body)
         Said::Circuit(_) => {}
         Said::Record(_) => {}
         Said::Whole => {
-            let paths = path_sum::sum(t);
+            let paths = path_sum::sum(t).map_err(u8::from);
             let summed = path_away::away(t);
             path_lines::path_line(text, j, paths, summed);
         }

@@ -3,6 +3,7 @@
 
 use contents::{Entry, Kind};
 use exact::{Eighth, Refusal};
+use program::Messages;
 use std::io;
 use std::io::Write;
 
@@ -94,8 +95,12 @@ fn compare(out: &mut impl Write, book: &[u8]) -> io::Result<()> {
 
 // That a book has more than 60,000 bytes is all that matters of a longer one.
 fn main(rt: HostRuntime) -> io::Result<()> {
+    let messages = Messages {
+        waits: b"same: reads a book from standard input (same < FILE)\n",
+        unread: b"same: standard input cannot be read\n",
+    };
     let mut area = [0u8; 60001];
-    match program::book("same", &mut rt.stdin(), &mut rt.stderr(), &mut area) {
+    match program::book(&messages, &mut rt.stdin(), &mut rt.stderr(), &mut area) {
         Some(book) => compare(&mut rt.stdout(), book),
         None => Ok(()),
     }

@@ -26,9 +26,16 @@ pub fn tie(area: &mut [u8], mask: u64, b: u8) -> u8
     told_tables::changed(area, |t| t.tie(mask, b))
 }
 
-// x_v set to `b`, and `v` freed.
+// x_v set to `b`, and `v` freed. Of the calls on a table it takes the most stack, and so does without the closure of `changed`, which copies the table twice more.
 pub fn fix(area: &mut [u8], v: usize, b: u8) -> u8
     ensures { FixTold area.old v b result area.new }
 {
-    told_tables::changed(area, |t| t.fix(Slot(v), b))
+    let r = image_read::read(area);
+    let refusal = r.refusal;
+    if refusal != 0 {
+        return refusal;
+    }
+    let t = told_tables::held(r);
+    let c = t.fix(Slot(v), b);
+    told_tables::put_back(area, c.table, c.refusal)
 }

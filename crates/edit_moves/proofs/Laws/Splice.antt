@@ -1,5 +1,5 @@
 -- A book that closes up around a new body: two moves, the body and zeros, one after the other, place by place.
-use mathlib.Core.Path.{◌≡◌, ◌∙◌, refl, sym, subst}
+use mathlib.Core.Path.{◌≡◌, ◌∙◌, refl}
 use mathlib.Core.Logic.{◌⊎◌, inl, inr, ⊎_elim}
 use mathlib.Core.List.{List}
 use Prim.Native.Nat.{ℕ, ◌+◌, ◌-◌, ◌≤◌, ◌<◌}
@@ -8,8 +8,9 @@ use borrow.Rule.Slice.PartMut.{put_mid}
 use lib.ListN.{length, get_or, replicate}
 use Rattle.std.specs.List.{CopiedTo, SameBelow, SameFrom}
 use Rattle.exact.proofs.Laws.Sum.{split}
-use Rattle.edit_moves.proofs.Laws.Holds as held
-use Rattle.edit_moves.proofs.Laws.Holds.{Holds, holds-copied, holds-put, holds-zeros}
+use Rattle.edit_moves.specs.Inner.Held as held
+use Rattle.edit_moves.specs.Inner.Held.{Holds}
+use Rattle.edit_moves.proofs.Laws.Holds.{holds-copied, holds-zeros}
 use Rattle.edit_moves.specs.Inner.Spliced.{placed, behind, ending, Spliceable, Spliced}
 
 module _ (xs : List ℕ) (n old new from to : ℕ) (body : List ℕ) (S : Spliceable xs n old new from to body) (a b c d : List ℕ) where
@@ -46,29 +47,23 @@ module _ (xs : List ℕ) (n old new from to : ℕ) (body : List ℕ) (S : Splice
     }
 
 -- the same, from what the library's calls say of the area after each of them
-pub spliced-by_calls : (xs : List ℕ) (n old new from to : ℕ) (body : List ℕ) → Spliceable xs n old new from to body → (a b cs zs : List ℕ) (low : ℕ)
+pub spliced-by_calls : (xs : List ℕ) (n old new from to : ℕ) (body : List ℕ) → Spliceable xs n old new from to body → (a b c zs : List ℕ) (low : ℕ)
     → length a ≡ length xs → CopiedTo xs a old new (from - old) × SameBelow xs a new × SameFrom xs a (new + (from - old))
     → length b ≡ length a → CopiedTo a b to (behind old new from body) (n - to) × SameBelow a b (behind old new from body) × SameFrom a b (behind old new from body + (n - to))
-    → cs ≡ body
+    → Holds (held.of body (placed old new from)) (placed old new from) (behind old new from body) b c
     → (low ≤ ending n old new from to body) × (low ≤ n) × ((low ≡ ending n old new from to body) ⊎ (low ≡ n))
     → zs ≡ replicate (n - low) 0
-    → Spliced xs n old new from to body (put_mid low (n - low) (put_mid (placed old new from) (behind old new from body - placed old new from) b cs) zs)
-spliced-by_calls xs n old new from to body S a b cs zs low la A lb B e least z = spliced xs n old new from to body S a b _ _ first second third low least fourth
+    → Spliced xs n old new from to body (put_mid low (n - low) c zs)
+spliced-by_calls xs n old new from to body S a b c zs low la A lb B third least z = spliced xs n old new from to body S a b c _ first second third low least fourth
   where
-    at : ℕ
-    at = placed old new from
-
     past : ℕ
     past = behind old new from body
 
-    first : Holds (held.from xs old new) new at xs a
-    first = holds-copied xs a old new (from - old) at refl la A
+    first : Holds (held.from xs old new) new (placed old new from) xs a
+    first = holds-copied xs a old new (from - old) (placed old new from) refl la A
 
     second : Holds (held.from a to past) past (ending n old new from to body) a b
     second = holds-copied a b to past (n - to) (ending n old new from to body) refl lb B
 
-    third : Holds (held.of body at) at past b (put_mid at (past - at) b cs)
-    third = subst (λ (l : List ℕ). Holds (held.of body at) at past b (put_mid at (past - at) b l)) (sym e) (holds-put b body at (past - at) past (omega arith) (omega arith) (omega (arith, la, lb, S.room)))
-
-    fourth : Holds (λ p. 0) low n (put_mid at (past - at) b cs) (put_mid low (n - low) (put_mid at (past - at) b cs) zs)
-    fourth = holds-zeros (put_mid at (past - at) b cs) zs low (n - low) n (omega (arith, least.1)) z (omega (arith, third.long, la, lb, S.area, least.1))
+    fourth : Holds (λ p. 0) low n c (put_mid low (n - low) c zs)
+    fourth = holds-zeros c zs low (n - low) n (omega (arith, least.1)) z (omega (arith, third.long, la, lb, S.area, least.1))

@@ -6,4 +6,4 @@ use Rattle.edit_moves.proofs.splice.Goals as goal
 pub returns : goal.returns
 returns c =
     let a = c.args in
-    spliced-by_calls a.area.now a.n a.old a.new a.from a.to a.body.now c.requires _ _ _ _ c.min.result c.copy_within.ensures.len c.copy_within.ensures.by_index c.copy_within-2.ensures.len c.copy_within-2.ensures.by_index c.copy_from_slice.ensures.after (search rules) (search rules)
+    spliced-by_calls a.area.now a.n a.old a.new a.from a.to a.body.now c.requires _ _ _ _ c.min.result c.copy_within.ensures.len c.copy_within.ensures.by_index c.copy_within-2.ensures.len c.copy_within-2.ensures.by_index c.put.ensures (search rules) (search rules)

@@ -12,4 +12,4 @@ pub returns : goal.returns
 unfolding circuit_line letters
 returns c =
     let h : length c.args.text.now.area.now ≤ top = search rules in
-    lays_more h (lays_more h (lays_more h c.number.ensures c.word.ensures) c.put_amount.ensures) c.end_line.ensures
+    lays_more h (lays_more h (lays_more h c.number.ensures c.word.ensures) c.put_amount.ensures) c.word-2.ensures

@@ -4,8 +4,6 @@ use native.Mathlib.Omega.{arith}
 use lib.IntN.{ℤ, pos, negsuc, nat_abs}
 use lib.ListN.{length, length-append}
 use Rattle.std.specs.Prelude.{Result, Ok, Err}
-use Rattle.exact.specs.Code.{code_of}
-use Rattle.exact.specs.declared.Refusal.{Refusal}
 use Rattle.exact.specs.declared.Answer.{Answer}
 use Rattle.exact.specs.declared.Answer.TheVariants as answer
 use Rattle.lines_words.specs.Text.{letters, digits, signed_text}
@@ -38,13 +36,13 @@ unfolding four_text letters
 four f w = simp length-append (omega (arith, large f.c0 w.first, large f.c1 w.second, large f.c2 w.third, large f.c3 w.fourth))
 
 -- the first half: a refusal of two digits, or small numbers and a power in range
-abbrev pub PathsShort : Result PathSum Refusal → Type 0
-PathsShort (Err r) = code_of r < 100
+abbrev pub PathsShort : Result PathSum ℕ → Type 0
+PathsShort (Err n) = n < 100
 PathsShort (Ok s) = Within 1048576 (value_of s.four) × (nat_abs s.power.0 ≤ 2000)
 
-paths : (r : Result PathSum Refusal) → PathsShort r → length (paths_text r) ≤ 41
+paths : (r : Result PathSum ℕ) → PathsShort r → length (paths_text r) ≤ 41
 unfolding paths_text letters
-paths (Err r) h = omega (arith, refused 2 (code_of r) (digits-length 1 (code_of r) h))
+paths (Err n) h = omega (arith, refused 2 n (digits-length 1 n h))
 paths (Ok s) h = simp length-append (omega (arith, four s.four h.0, power s.power.0 h.1))
 
 -- the second half: a refusal of one digit, or an amount in range
@@ -57,6 +55,6 @@ unfolding summed_text
 summed (answer.Refused n) h = omega (arith, refused 1 n (digits-length 0 n h))
 summed (answer.Is a) h = omega (arith, amounts.amount a h)
 
-pub path-length : (j : ℕ) (r : Result PathSum Refusal) (a : Answer) → j < 100 → PathsShort r → SummedShort a → length (path_line j r a) ≤ 55
+pub path-length : (j : ℕ) (r : Result PathSum ℕ) (a : Answer) → j < 100 → PathsShort r → SummedShort a → length (path_line j r a) ≤ 55
 unfolding path_line letters
 path-length j r a h p s = simp length-append (omega (arith, digits-length 1 j h, paths r p, summed a s))

@@ -18,7 +18,7 @@ use Rattle.book.proofs.Laws.Only.{one_number, one-body}
 use Rattle.path_sum.specs.declared.PathSum.{PathSum}
 use Rattle.path_lines.specs.Lines.{path_line}
 use Rattle.theorem_paths.proofs.Laws.Only.{one-paths, one-away}
-use Rattle.path_listing.specs.Listing.{Halves, Answers, body_text, table_lines, Tables, PathListing, PathsListed}
+use Rattle.path_listing.specs.Listing.{Halves, Answers, numbered, body_text, table_lines, Tables, PathListing, PathsListed}
 use Rattle.path_listing.proofs.Laws.Sofar.{lines_same}
 
 -- of one body, one line
@@ -28,7 +28,7 @@ one_line j b (Refused k) e g h A B = refl
 one_line j b (Circuit a) e g h A B = refl
 one_line j b (Record c) e g h A B = refl
 one_line j b Whole e g h A B =
-    ap₂ (λ (r : Result PathSum Refusal) (a : Answer). path_line j r a) (one-paths b.table g.paths h.paths (A e).paths (B e).paths) (one-away b.table g.summed h.summed (A e).summed (B e).summed)
+    ap₂ (λ (r : Result PathSum Refusal) (a : Answer). path_line j (numbered r) a) (one-paths b.table g.paths h.paths (A e).paths (B e).paths) (one-away b.table g.summed h.summed (A e).summed (B e).summed)
 
 pub one-tables : (bs text more : List ℕ) → Tables bs text → Tables bs more → text ≡ more
 one-tables bs text more L M =

@@ -45,7 +45,7 @@ use Rattle.path_sum.proofs.Laws.Small.{Within, paths-small}
 use Rattle.path_away.specs.Away.{SummedAway}
 use Rattle.path_away.proofs.Laws.Away.{on-the-way, away-number}
 use Rattle.path_lines.proofs.Laws.Lengths.{PathsShort, SummedShort, path-length}
-use Rattle.path_listing.specs.Listing.{Halves, Answers, body_text, table_lines}
+use Rattle.path_listing.specs.Listing.{Halves, Answers, numbered, body_text, table_lines}
 
 power-range : (s : ℤ) → normal.InRange s → nat_abs s ≤ 2000
 power-range (pos n) h = h
@@ -115,7 +115,7 @@ module _ (t : State) (N : Normal t) where
   narrow z =
       ⊎_elim (λ (l : 20 < ones t.live). let q : bits_number t ≡ 15 = first-yes _ _ _ (lt-ltb 20 (ones t.live) l) in absurd (omega (arith, z, q))) (λ (l : ones t.live ≤ 20). l) (split 20 (ones t.live))
 
-  paths-short : (r : Result PathSum Refusal) → PathsAdded t r → PathsShort r
+  paths-short : (r : Result PathSum Refusal) → PathsAdded t r → PathsShort (numbered r)
   unfolding numbers_in power_in
   paths-short (Err n) A = omega (arith, A.sound N, number_small)
   paths-short (Ok s) A =
@@ -124,12 +124,12 @@ module _ (t : State) (N : Normal t) where
       (subst (Within 1048576) (sym (ap numbers_in e)) (paths-small t N l), subst (λ (z : ℤ). nat_abs z ≤ 2000) (sym (ap power_in e)) (power-range t.power.0 N.power-range))
 
 -- ---- the line of a body
-text-short : (j : ℕ) (s : Said) (h : Halves) → j < 16 → (s ≡ Whole → PathsShort h.paths × SummedShort h.summed) → length (body_text j s h) ≤ 55
+text-short : (j : ℕ) (s : Said) (h : Halves) → j < 16 → (s ≡ Whole → PathsShort (numbered h.paths) × SummedShort h.summed) → length (body_text j s h) ≤ 55
 unfolding body_text
 text-short j (Refused k) h l w = omega arith
 text-short j (Circuit a) h l w = omega arith
 text-short j (Record c) h l w = omega arith
-text-short j Whole h l w = path-length j h.paths h.summed (omega (arith, l)) (w refl).0 (w refl).1
+text-short j Whole h l w = path-length j (numbered h.paths) h.summed (omega (arith, l)) (w refl).0 (w refl).1
 
 -- ---- the listing
 module _ (bs : List ℕ) (z : contents_number bs ≡ 0) where
