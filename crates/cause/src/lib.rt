@@ -3,7 +3,8 @@
 
 ghost use Rattle.std.specs.Prelude.{◌≡◌};
 ghost use Rattle.exact.specs.Code.{code_of};
-ghost use Rattle.cause.specs.Cause.{number_of, found};
+ghost use Rattle.cause.specs.Cause.{number_of};
+ghost use Rattle.cause.specs.Inner.Fault.{found_of};
 
 use exact::Refusal;
 
@@ -102,9 +103,12 @@ impl Cause {
     }
 }
 
-// A fault of a cause, at an item and a byte.
-pub fn fault(cause: Cause, item: usize, byte: usize) -> Result<(), Found>
-    ensures { result ≡ found cause item byte }
+// A fault of a cause, at an item and a byte; without a cause there is none.
+pub fn fault(cause: Option<Cause>, item: usize, byte: usize) -> Result<(), Found>
+    ensures { result ≡ found_of cause item byte }
 {
-    Err(Found { cause, item, byte })
+    match cause {
+        None => Ok(()),
+        Some(cause) => Err(Found { cause, item, byte }),
+    }
 }

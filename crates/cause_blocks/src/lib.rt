@@ -28,13 +28,13 @@ fn mark(code: u8, j: usize, at: usize, s: Scan) -> Result<(), Found>
         if s.more != 0 {
             return Ok(());
         }
-        return cause::fault(Cause::Deep, j, at + 3 * j);
+        return cause::fault(Some(Cause::Deep), j, at + 3 * j);
     }
     if s.more == exact::MOST_DEEP {
-        return cause::fault(Cause::Unopened, j, at + 3 * j);
+        return cause::fault(Some(Cause::Unopened), j, at + 3 * j);
     }
     if s.fresh {
-        return cause::fault(Cause::Empty, j, at + 3 * j);
+        return cause::fault(Some(Cause::Empty), j, at + 3 * j);
     }
     Ok(())
 }
@@ -85,10 +85,10 @@ pub fn first(items: &[u8], at: usize) -> Result<(), Found>
         s = step(code, j, s);
     }
     if s.more != exact::MOST_DEEP {
-        return cause::fault(Cause::Unclosed, s.outer, at + 3 * s.outer);
+        return cause::fault(Some(Cause::Unclosed), s.outer, at + 3 * s.outer);
     }
     if blocks::number(items) != 0 {
-        return cause::fault(Cause::Expansion, 0, at);
+        return cause::fault(Some(Cause::Expansion), 0, at);
     }
     Ok(())
 }

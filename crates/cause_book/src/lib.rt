@@ -60,7 +60,7 @@ pub fn why_body(book: &[u8], j: usize) -> Result<(), Reason>
 {
     told(None, cause_contents::first(book))?;
     if j >= contents::count(book) {
-        return told(None, cause::fault(Cause::NoBody, 0, 3));
+        return told(None, cause::fault(Some(Cause::NoBody), 0, 3));
     }
     told(Some(j), body_at(book, j))
 }

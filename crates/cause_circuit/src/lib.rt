@@ -20,23 +20,31 @@ fn head(
     ensures { result ≡ head_found from at listed width input output gates.now }
 {
     if gates.len() % 3 != 0 {
-        return cause::fault(Cause::Threes, gates.len() / 3, at + 3 * (gates.len() / 3));
+        return cause::fault(
+            Some(Cause::Threes),
+            gates.len() / 3,
+            at + 3 * (gates.len() / 3),
+        );
     }
     if exact::MOST_GATES < gates.len() / 3 {
-        return cause::fault(Cause::Many, exact::MOST_GATES, at + 3 * exact::MOST_GATES);
+        return cause::fault(
+            Some(Cause::Many),
+            exact::MOST_GATES,
+            at + 3 * exact::MOST_GATES,
+        );
     }
     if width < 1 {
-        return cause::fault(Cause::Wires, 0, listed);
+        return cause::fault(Some(Cause::Wires), 0, listed);
     }
     if exact::MOST_WIRES < width {
-        return cause::fault(Cause::Wires, 0, listed);
+        return cause::fault(Some(Cause::Wires), 0, listed);
     }
     let strings = 1u64 << width;
     if strings <= input as u64 {
-        return cause::fault(Cause::Input, 0, from);
+        return cause::fault(Some(Cause::Input), 0, from);
     }
     if strings <= output as u64 {
-        return cause::fault(Cause::Output, 0, from + 4);
+        return cause::fault(Some(Cause::Output), 0, from + 4);
     }
     Ok(())
 }
@@ -66,7 +74,7 @@ pub fn circuit(edition: u8, part: &[u8], width: u8, from: usize, listed: usize) 
     ensures { result ≡ circuit_found from listed edition width part.now }
 {
     if part.len() < 8 {
-        return cause::fault(Cause::Strings, 0, from);
+        return cause::fault(Some(Cause::Strings), 0, from);
     }
     let input = fields::read_u32(part, 0);
     let output = fields::read_u32(part, 4);
@@ -100,5 +108,5 @@ pub fn record(part: &[u8], width: u8, from: usize, listed: usize) -> Result<(), 
             listed,
         );
     }
-    cause::fault(Cause::Strings, 0, from)
+    cause::fault(Some(Cause::Strings), 0, from)
 }

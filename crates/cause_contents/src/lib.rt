@@ -12,22 +12,22 @@ fn header(bs: &[u8]) -> Result<(), Found>
     ensures { result ≡ header_found bs.now }
 {
     if bs.len() < 4 {
-        return cause::fault(Cause::Short, 0, 0);
+        return cause::fault(Some(Cause::Short), 0, 0);
     }
     if bs.len() > exact::MOST_BYTES {
-        return cause::fault(Cause::Long, 0, exact::MOST_BYTES);
+        return cause::fault(Some(Cause::Long), 0, exact::MOST_BYTES);
     }
     if bs[0] != 0x51 {
-        return cause::fault(Cause::Letters, 0, 0);
+        return cause::fault(Some(Cause::Letters), 0, 0);
     }
     if bs[1] != 0x4E {
-        return cause::fault(Cause::Letters, 0, 1);
+        return cause::fault(Some(Cause::Letters), 0, 1);
     }
     if !editions::good_edition(contents::edition(bs)) {
-        return cause::fault(Cause::Edition, 0, 2);
+        return cause::fault(Some(Cause::Edition), 0, 2);
     }
     if contents::count(bs) > exact::MOST_BODIES {
-        return cause::fault(Cause::Count, 0, 3);
+        return cause::fault(Some(Cause::Count), 0, 3);
     }
     Ok(())
 }
@@ -38,16 +38,16 @@ fn entry(edition: u8, e: Entry, j: usize, from: usize, size: usize) -> Result<()
     ensures { result ≡ entry_found edition e j from size }
 {
     if !contents::good_kind(edition, e.kind) {
-        return cause::fault(Cause::Kind, j, 4 + 8 * j);
+        return cause::fault(Some(Cause::Kind), j, 4 + 8 * j);
     }
     if e.start != from {
-        return cause::fault(Cause::Start, j, 8 + 8 * j);
+        return cause::fault(Some(Cause::Start), j, 8 + 8 * j);
     }
     if size < e.start {
-        return cause::fault(Cause::End, j, 6 + 8 * j);
+        return cause::fault(Some(Cause::End), j, 6 + 8 * j);
     }
     if size - e.start < e.length {
-        return cause::fault(Cause::End, j, 6 + 8 * j);
+        return cause::fault(Some(Cause::End), j, 6 + 8 * j);
     }
     Ok(())
 }
@@ -60,7 +60,7 @@ pub fn first(bs: &[u8]) -> Result<(), Found>
     let n = contents::count(bs);
     let behind = 4 + 8 * n;
     if bs.len() < behind {
-        return cause::fault(Cause::Contents, 0, bs.len());
+        return cause::fault(Some(Cause::Contents), 0, bs.len());
     }
     let edition = contents::edition(bs);
     let mut at = behind;
@@ -70,7 +70,7 @@ pub fn first(bs: &[u8]) -> Result<(), Found>
         at += e.length;
     }
     if at != bs.len() {
-        return cause::fault(Cause::LastEnd, 0, at);
+        return cause::fault(Some(Cause::LastEnd), 0, at);
     }
     Ok(())
 }

@@ -15,20 +15,20 @@ fn range(code: u8, second: u8, j: usize, byte: usize) -> Result<(), Found>
 {
     if code == 64 {
         if second != 0 {
-            return cause::fault(Cause::Stray, j, byte + 2);
+            return cause::fault(Some(Cause::Stray), j, byte + 2);
         }
-        return cause::fault(Cause::NoCount, j, byte + 1);
+        return cause::fault(Some(Cause::NoCount), j, byte + 1);
     }
     if code == 65 {
         if second != 0 {
-            return cause::fault(Cause::Stray, j, byte + 2);
+            return cause::fault(Some(Cause::Stray), j, byte + 2);
         }
-        return cause::fault(Cause::Stray, j, byte + 1);
+        return cause::fault(Some(Cause::Stray), j, byte + 1);
     }
     if code == gates::MEASURED {
-        return cause::fault(Cause::Outcome, j, byte + 2);
+        return cause::fault(Some(Cause::Outcome), j, byte + 2);
     }
-    cause::fault(Cause::SecondByte, j, byte + 2)
+    cause::fault(Some(Cause::SecondByte), j, byte + 2)
 }
 
 // Why item j is refused by a number, 0 for none: which of its bytes is at fault.
@@ -45,16 +45,16 @@ fn refine(
     ensures { result ≡ read_found byte j width k code wire second }
 {
     if k == exact::UNKNOWN_CODE {
-        return cause::fault(Cause::Code, j, byte);
+        return cause::fault(Some(Cause::Code), j, byte);
     }
     if k == exact::BAD_WIRE {
         if width <= wire {
-            return cause::fault(Cause::Wire, j, byte + 1);
+            return cause::fault(Some(Cause::Wire), j, byte + 1);
         }
-        return cause::fault(Cause::SecondWire, j, byte + 2);
+        return cause::fault(Some(Cause::SecondWire), j, byte + 2);
     }
     if k == exact::TWICE {
-        return cause::fault(Cause::SameWire, j, byte + 2);
+        return cause::fault(Some(Cause::SameWire), j, byte + 2);
     }
     if k == exact::OUT_OF_RANGE {
         return range(code, second, j, byte);

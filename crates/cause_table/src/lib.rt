@@ -14,18 +14,18 @@ fn size(bs: &[u8], width: u8, from: usize, listed: usize) -> Result<(), Found>
     ensures { result ≡ size_found from listed width bs.now }
 {
     if width > 64 {
-        return cause::fault(Cause::TableWidth, 0, listed);
+        return cause::fault(Some(Cause::TableWidth), 0, listed);
     }
     let least = 5 + 9 * (width as usize);
     if bs.len() < least {
-        return cause::fault(Cause::Length, 0, from + bs.len());
+        return cause::fault(Some(Cause::Length), 0, from + bs.len());
     }
     let k = body_bytes::count_of(bs, width);
     if k > width {
-        return cause::fault(Cause::ManyTies, 0, from + (4 + 9 * (width as usize)));
+        return cause::fault(Some(Cause::ManyTies), 0, from + (4 + 9 * (width as usize)));
     }
     if bs.len() != least + 9 * (k as usize) {
-        return cause::fault(Cause::Length, 0, from + bs.len());
+        return cause::fault(Some(Cause::Length), 0, from + bs.len());
     }
     Ok(())
 }
@@ -36,13 +36,13 @@ fn head(bs: &[u8], from: usize) -> Result<(), Found>
     ensures { result ≡ head_found from bs.now }
 {
     if fields::read_u8(bs, 0) > 1 {
-        return cause::fault(Cause::ZeroMark, 0, from);
+        return cause::fault(Some(Cause::ZeroMark), 0, from);
     }
     if fields::read_u8(bs, 1) > 7 {
-        return cause::fault(Cause::Phase, 0, from + 1);
+        return cause::fault(Some(Cause::Phase), 0, from + 1);
     }
     if body_fault::power_out(body_bytes::power_of(bs)) {
-        return cause::fault(Cause::PowerOut, 0, from + 2);
+        return cause::fault(Some(Cause::PowerOut), 0, from + 2);
     }
     Ok(())
 }
@@ -54,7 +54,7 @@ fn turns(bs: &[u8], width: u8, from: usize) -> Result<(), Found>
 {
     for v in 0..width {
         if body_bytes::turn_of(bs, v) > 3 {
-            return cause::fault(Cause::Turn, v as usize, from + (4 + v as usize));
+            return cause::fault(Some(Cause::Turn), v as usize, from + (4 + v as usize));
         }
     }
     Ok(())
@@ -68,7 +68,7 @@ fn rows(bs: &[u8], width: u8, from: usize) -> Result<(), Found>
     for v in 0..width {
         if body_fault::mask_out(body_bytes::row_of(bs, width, v), width) {
             return cause::fault(
-                Cause::Row,
+                Some(Cause::Row),
                 v as usize,
                 from + (4 + width as usize + 8 * (v as usize)),
             );
@@ -84,10 +84,10 @@ fn tie(bs: &[u8], width: u8, j: u8, from: usize) -> Result<(), Found>
 {
     let at = 5 + 9 * (width as usize) + 9 * (j as usize);
     if body_fault::mask_out(body_bytes::mask_of(bs, width, j), width) {
-        return cause::fault(Cause::Mask, j as usize, from + at);
+        return cause::fault(Some(Cause::Mask), j as usize, from + at);
     }
     if body_bytes::side_of(bs, width, j) > 1 {
-        return cause::fault(Cause::Side, j as usize, from + (at + 8));
+        return cause::fault(Some(Cause::Side), j as usize, from + (at + 8));
     }
     Ok(())
 }
@@ -125,7 +125,7 @@ pub fn table(bs: &[u8], width: u8, from: usize, listed: usize) -> Result<(), Fou
     let r = body_read::read(bs, width);
     let refusal = r.refusal;
     if refusal != 0 {
-        return cause::fault(Cause::NotNormal, 0, from);
+        return cause::fault(Some(Cause::NotNormal), 0, from);
     }
     Ok(())
 }

@@ -1,3 +1,4 @@
 pub mod Tell
 pub mod Power
 pub mod Only
+pub mod Number

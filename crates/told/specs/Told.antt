@@ -4,7 +4,8 @@ use Rattle.std.specs.Int.Count.{ones}
 use Rattle.exact.specs.declared.Amount.{Amount}
 use Rattle.exact.specs.declared.Amount.TheVariants.{Zero, Some}
 use Rattle.exact.specs.declared.Refusal.{Refusal}
-use Rattle.exact.specs.Code.{refusal_in}
+use Rattle.exact.specs.Code.{code_of}
+use Rattle.exact.specs.Refusal.{accepted}
 use Rattle.exact.specs.declared.Chance.{Chance}
 use Rattle.exact.specs.declared.Chance.TheVariants.{Never, OneOver}
 use Rattle.exact.specs.Chance.{chance_amount}
@@ -42,11 +43,22 @@ behind z s c = record { zero = z; power = s; phase = c }
 abbrev pub told : Amount → Told
 told a = behind (zero_of a) (power_told a) (phase_told a)
 
+-- ---- an answer that may be refused, by any number
+-- a refusal by its number
+abbrev pub numbered : {A : Type 0} → Result A Refusal → Result A ℕ
+numbered (Ok a) = Ok a
+numbered (Err r) = Err (code_of r)
+
+-- the number of refusal, 0 for none
+abbrev pub number_in : {A : Type 0} → Result A ℕ → ℕ
+number_in (Ok a) = accepted
+number_in (Err k) = k
+
 -- ---- an answer
 -- an answer told: refused by its number, with the three as they were; or its amount
-pub record AnswerTold (a : Result Amount Refusal) (before : Told) (n : ℕ) (after : Told) : Type 0 where
-  pub number : n ≡ refusal_in a
-  pub kept : (k : Refusal) → a ≡ Err k → after ≡ before
+pub record AnswerTold (a : Result Amount ℕ) (before : Told) (n : ℕ) (after : Told) : Type 0 where
+  pub number : n ≡ number_in a
+  pub kept : (k : ℕ) → a ≡ Err k → after ≡ before
   pub given : (m : Amount) → a ≡ Ok m → after ≡ told m
 
 -- ---- a chance as two numbers
@@ -64,9 +76,9 @@ told_chance Never = odds 1 0
 told_chance (OneOver e) = odds 0 e
 
 -- a record's answer told: refused by its number, with the two as they were; or its chance
-pub record ChanceTold (a : Result Chance Refusal) (before : Odds) (n : ℕ) (after : Odds) : Type 0 where
-  pub number : n ≡ refusal_in a
-  pub kept : (k : Refusal) → a ≡ Err k → after ≡ before
+pub record ChanceTold (a : Result Chance ℕ) (before : Odds) (n : ℕ) (after : Odds) : Type 0 where
+  pub number : n ≡ number_in a
+  pub kept : (k : ℕ) → a ≡ Err k → after ≡ before
   pub given : (c : Chance) → a ≡ Ok c → after ≡ told_chance c
 
 -- ---- a body of a book

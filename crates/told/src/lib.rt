@@ -8,7 +8,7 @@ ghost use Rattle.told.specs.Told.{behind, told, AnswerTold, odds, ChanceTold, si
 ghost use Rattle.told.specs.Inner.Power.{minus_twice};
 
 use book_bodies::{Body, Said};
-use exact::{Amount, Chance, Eighth, Power, Refusal};
+use exact::{Amount, Chance, Eighth, Power};
 
 // An amount as three numbers: zero or not, power, phase.
 pub fn tell(a: Amount, zero: &mut u8, power: &mut i32, phase: &mut u8)
@@ -29,11 +29,11 @@ pub fn tell(a: Amount, zero: &mut u8, power: &mut i32, phase: &mut u8)
 }
 
 // An answer told: its number, and its amount behind the pointers where it is not refused.
-pub fn answer(a: Result<Amount, Refusal>, zero: &mut u8, power: &mut i32, phase: &mut u8) -> u8
+pub fn answer(a: Result<Amount, u8>, zero: &mut u8, power: &mut i32, phase: &mut u8) -> u8
     ensures { AnswerTold a (behind zero.old power.old phase.old) result (behind zero.new power.new phase.new) }
 {
     match a {
-        Err(refusal) => u8::from(refusal),
+        Err(n) => n,
         Ok(m) => {
             tell(m, zero, power, phase);
             0
@@ -61,11 +61,11 @@ fn amount_of(c: Chance) -> Amount
 }
 
 // A record's answer told: its number, and its chance behind the pointers where it is not refused.
-pub fn chance(a: Result<Chance, Refusal>, never: &mut u8, power: &mut u32) -> u8
+pub fn chance(a: Result<Chance, u8>, never: &mut u8, power: &mut u32) -> u8
     ensures { ChanceTold a (odds never.old power.old) result (odds never.new power.new) }
 {
     match a {
-        Err(refusal) => u8::from(refusal),
+        Err(number) => number,
         Ok(Chance::Never) => {
             *never = 1;
             *power = 0;

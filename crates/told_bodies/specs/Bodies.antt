@@ -9,19 +9,19 @@ use Rattle.circuit.specs.Amplitude.{Amplitude}
 use Rattle.body_read.specs.declared.Reading.{Reading}
 use Rattle.body_read.specs.Read.{Reads}
 use Rattle.body_write.specs.Write.{BodyWritten}
-use Rattle.told.specs.Told.{Told, AnswerTold}
+use Rattle.told.specs.Told.{numbered, Told, AnswerTold}
 
 -- the amplitude of a circuit of an edition
 pub record AmplitudeTold (edition width input output : ℕ) (bs : List ℕ) (before : Told) (n : ℕ) (after : Told) : Type 0 where
   pub answer : Result Amount Refusal
   pub is : Amplitude edition width input output bs answer
-  pub tells : AnswerTold answer before n after
+  pub tells : AnswerTold (numbered answer) before n after
 
 -- an entry of a table
 pub record EntryTells (t : State) (x : ℕ) (before : Told) (n : ℕ) (after : Told) : Type 0 where
   pub answer : Result Amount Refusal
   pub is : EntryAt t x answer
-  pub tells : AnswerTold answer before n after
+  pub tells : AnswerTold (numbered answer) before n after
 
 -- the entry of a table body at an assignment: refused as the body is, then as the entry is
 pub record EntryTold (width : ℕ) (bs : List ℕ) (x : ℕ) (before : Told) (n : ℕ) (after : Told) : Type 0 where

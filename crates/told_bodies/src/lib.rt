@@ -17,7 +17,7 @@ pub fn amplitude(
 ) -> u8
     ensures { AmplitudeTold edition width input output gates.now (behind zero.old power.old phase.old) result (behind zero.new power.new phase.new) }
 {
-    let a = circuit::amplitude(edition, width, input, output, gates);
+    let a = circuit::amplitude(edition, width, input, output, gates).map_err(u8::from);
     told::answer(a, zero, power, phase)
 }
 
@@ -31,7 +31,7 @@ pub fn entry(body: &[u8], width: u8, x: u64, zero: &mut u8, power: &mut i32, pha
         return refusal;
     }
     let t = r.table;
-    let a = call_asking::entry(t, x);
+    let a = call_asking::entry(t, x).map_err(u8::from);
     told::answer(a, zero, power, phase)
 }
 

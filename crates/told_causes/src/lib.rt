@@ -2,16 +2,20 @@
 #![tactic(auto)]
 
 ghost use Rattle.std.specs.Prelude.{◌≡◌};
-ghost use Rattle.told_causes.specs.Told.{code_of, four, WhyTold, BookTold, BodyTold};
+ghost use Rattle.told_causes.specs.Inner.Code.{code_in};
+ghost use Rattle.told_causes.specs.Told.{four, WhyTold, BookTold, BodyTold};
 
 use cause::Cause;
 use cause_book::Reason;
 
-// The number of a cause, in the order of the causes: 0 stands for none.
-pub fn code(c: Cause) -> u8
-    ensures { result ≡ code_of c }
+// The number of a cause, in the order of the causes, 0 for none.
+pub fn code(c: Option<Cause>) -> u8
+    ensures { result ≡ code_in c }
 {
-    c as u8
+    match c {
+        None => 0,
+        Some(cause) => cause as u8,
+    }
 }
 
 // A fault told, and where there is none the body that was asked for and zeros; a fault of no body has body 16.
@@ -30,14 +34,14 @@ fn tell(
             *body = asked;
             *item = 0;
             *byte = 0;
-            *cause = 0;
+            *cause = code(None);
             0
         }
         Err(reason) => {
             *body = reason.body.unwrap_or(exact::MOST_BODIES);
             *item = reason.fault.item;
             *byte = reason.fault.byte;
-            *cause = code(reason.fault.cause);
+            *cause = code(Some(reason.fault.cause));
             u8::from(reason.fault.cause.refusal())
         }
     }

@@ -8,14 +8,14 @@ use Rattle.table.specs.declared.Table.{Table}
 use Rattle.table.specs.Answers.{EntryAt, SpreadOf}
 use Rattle.image_read.specs.declared.Reading.{Reading}
 use Rattle.image_read.specs.Read.{Reads}
-use Rattle.told.specs.Told.{Told, AnswerTold}
+use Rattle.told.specs.Told.{numbered, Told, AnswerTold}
 use Rattle.told_tables.specs.Called.{held}
 
 -- an entry of a table
 pub record EntryTells (t : Table) (x : ℕ) (before : Told) (n : ℕ) (after : Told) : Type 0 where
   pub answer : Result Amount Refusal
   pub is : EntryAt t x answer
-  pub tells : AnswerTold answer before n after
+  pub tells : AnswerTold (numbered answer) before n after
 
 -- an entry of the table whose bytes bs are: refused as their reading is, then as the entry is
 pub record EntryAsked (bs : List ℕ) (x : ℕ) (before : Told) (n : ℕ) (after : Told) : Type 0 where

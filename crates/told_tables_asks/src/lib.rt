@@ -16,7 +16,7 @@ pub fn entry(area: &[u8], x: u64, zero: &mut u8, power: &mut i32, phase: &mut u8
         return refusal;
     }
     let t = told_tables::held(r);
-    let a = t.entry(x);
+    let a = t.entry(x).map_err(u8::from);
     told::answer(a, zero, power, phase)
 }
 

@@ -5,13 +5,13 @@ use Rattle.book.specs.Read.{ReadsBody, ReadsStrict}
 use Rattle.exact.specs.declared.Chance.{Chance}
 use Rattle.exact.specs.declared.Refusal.{Refusal}
 use Rattle.record.specs.Chanced.{Chanced}
-use Rattle.told.specs.Told.{Odds, ChanceTold, Shown, BodyTold}
+use Rattle.told.specs.Told.{numbered, Odds, ChanceTold, Shown, BodyTold}
 
 -- the chance of a record
 pub record RecordTold (width input : ℕ) (bs : List ℕ) (before : Odds) (n : ℕ) (after : Odds) : Type 0 where
   pub answer : Result Chance Refusal
   pub is : Chanced width input bs answer
-  pub tells : ChanceTold answer before n after
+  pub tells : ChanceTold (numbered answer) before n after
 
 -- body j of a book, whatever its other bodies are
 pub record ReadTold (bs : List ℕ) (j : ℕ) (before : Shown) (n : ℕ) (after : Shown) : Type 0 where

@@ -48,7 +48,7 @@ pub extern "C" fn topazfern_chance(
 ) -> u8
     ensures { RecordTold width input gates.now (odds never.old power.old) result (odds never.new power.new) }
 {
-    let a = record::chance_of(width, input, gates);
+    let a = record::chance_of(width, input, gates).map_err(u8::from);
     told::chance(a, never, power)
 }
 

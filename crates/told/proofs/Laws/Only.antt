@@ -4,19 +4,18 @@ use Prim.Native.Nat.{ℕ}
 use Rattle.std.specs.Prelude.{Result, Ok, Err}
 use Rattle.exact.specs.declared.Amount.{Amount}
 use Rattle.exact.specs.declared.Chance.{Chance}
-use Rattle.exact.specs.declared.Refusal.{Refusal as Cause}
 use Rattle.book_bodies.specs.declared.Said.{Said}
 use Rattle.book_bodies.specs.declared.Said.TheVariants.{Refused, Circuit, Record, Whole}
 use Rattle.book_bodies.specs.declared.Body.{Body}
 use Rattle.told.specs.Told.{Told, AnswerTold, Odds, ChanceTold, Shown, BodyTold}
 
 -- an answer is told in one way
-pub one-telling : (a : Result Amount Cause) (t u v : Told) (n m : ℕ) → AnswerTold a t n u → AnswerTold a t m v → (n ≡ m) × (u ≡ v)
+pub one-telling : (a : Result Amount ℕ) (t u v : Told) (n m : ℕ) → AnswerTold a t n u → AnswerTold a t m v → (n ≡ m) × (u ≡ v)
 one-telling (Err k) t u v n m A B = (A.number ∙ sym B.number, A.kept k refl ∙ sym (B.kept k refl))
 one-telling (Ok x) t u v n m A B = (A.number ∙ sym B.number, A.given x refl ∙ sym (B.given x refl))
 
 -- a record's answer too
-pub one-chance-told : (a : Result Chance Cause) (t u v : Odds) (n m : ℕ) → ChanceTold a t n u → ChanceTold a t m v → (n ≡ m) × (u ≡ v)
+pub one-chance-told : (a : Result Chance ℕ) (t u v : Odds) (n m : ℕ) → ChanceTold a t n u → ChanceTold a t m v → (n ≡ m) × (u ≡ v)
 one-chance-told (Err k) t u v n m A B = (A.number ∙ sym B.number, A.kept k refl ∙ sym (B.kept k refl))
 one-chance-told (Ok c) t u v n m A B = (A.number ∙ sym B.number, A.given c refl ∙ sym (B.given c refl))
 

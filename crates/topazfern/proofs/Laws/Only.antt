@@ -19,7 +19,7 @@ use Rattle.circuit.proofs.Laws.Only.{one-amplitude}
 use Rattle.book_bodies.specs.declared.Body.{Body}
 use Rattle.book.proofs.Laws.Only.{one-body, one-strict}
 use Rattle.record.proofs.Laws.Only.{one-chance}
-use Rattle.told.specs.Told.{Told, AnswerTold, Odds, ChanceTold, Shown, BodyTold}
+use Rattle.told.specs.Told.{numbered, Told, AnswerTold, Odds, ChanceTold, Shown, BodyTold}
 use Rattle.told.proofs.Laws.Only.{one-telling, one-chance-told, one-body-told}
 use Rattle.told_bodies.specs.Bodies.{AmplitudeTold, EntryTold, WriteTold}
 use Rattle.topazfern.specs.Calls.{RecordTold, ReadTold, StrictReadTold}
@@ -27,12 +27,12 @@ use Rattle.topazfern.specs.Calls.{RecordTold, ReadTold, StrictReadTold}
 pub one-amplitude-told : (ed width input output : ℕ) (bs : List ℕ) (t u v : Told) (n m : ℕ) → AmplitudeTold ed width input output bs t n u → AmplitudeTold ed width input output bs t m v → (n ≡ m) × (u ≡ v)
 one-amplitude-told ed width input output bs t u v n m A B =
     let e = one-amplitude ed width input output bs A.answer B.answer A.is B.is in
-    one-telling B.answer t u v n m (subst (λ (a : Result Amount Refusal). AnswerTold a t n u) e A.tells) B.tells
+    one-telling (numbered B.answer) t u v n m (subst (λ (a : Result Amount Refusal). AnswerTold (numbered a) t n u) e A.tells) B.tells
 
 pub one-record-told : (width input : ℕ) (bs : List ℕ) (t u v : Odds) (n m : ℕ) → RecordTold width input bs t n u → RecordTold width input bs t m v → (n ≡ m) × (u ≡ v)
 one-record-told width input bs t u v n m A B =
     let e = one-chance width input bs A.answer B.answer A.is B.is in
-    one-chance-told B.answer t u v n m (subst (λ (a : Result Chance Refusal). ChanceTold a t n u) e A.tells) B.tells
+    one-chance-told (numbered B.answer) t u v n m (subst (λ (a : Result Chance Refusal). ChanceTold (numbered a) t n u) e A.tells) B.tells
 
 pub one-entry-told : (width : ℕ) (bs : List ℕ) (x : ℕ) (t u v : Told) (n m : ℕ) → EntryTold width bs x t n u → EntryTold width bs x t m v → (n ≡ m) × (u ≡ v)
 one-entry-told width bs x t u v n m A B = ⊎_elim given refused (same_or A.reading.refusal 0)
@@ -49,7 +49,7 @@ one-entry-told width bs x t u v n m A B = ⊎_elim given refused (same_or A.read
         let b = B.given (sym number ∙ z) in
         let i = subst (λ (r : Reading). EntryAt r.table x a.answer) e a.is in
         let s = one_entry B.reading.table x a.answer b.answer i b.is in
-        one-telling b.answer t u v n m (subst (λ (c : Result Amount Refusal). AnswerTold c t n u) s a.tells) b.tells
+        one-telling (numbered b.answer) t u v n m (subst (λ (c : Result Amount Refusal). AnswerTold (numbered c) t n u) s a.tells) b.tells
 
     refused : A.reading.refusal ≢ 0 → (n ≡ m) × (u ≡ v)
     refused ne =
